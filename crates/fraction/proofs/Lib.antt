@@ -1,0 +1,3 @@
+-- Laws of the fractions.
+pub mod Same
+pub mod Value

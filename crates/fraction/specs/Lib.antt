@@ -1,0 +1,2 @@
+-- The fractions in which the luma formulas are written.
+pub mod Fraction

@@ -1,0 +1,1 @@
+// Exact fractions, which only definitions and proofs use: no code computes with one.

@@ -1,0 +1,3 @@
+-- Laws of the whole numbers that belong to no one function.
+pub mod Difference
+pub mod Closers

@@ -1,0 +1,2 @@
+-- What every other crate means by Round, Clip and ">> 1".
+pub mod Whole
