@@ -1,0 +1,69 @@
+-- Laws of depths: the test and the fact, and the powers that follow from a depth.
+use mathlib.Core.Path.{_≡_, refl, ap, _∙_}
+use mathlib.Core.Bool.{Bool, true, false, _&&_}
+use Prim.Native.Nat.{ℕ, _+_, _*_, _-_, _^_, _≤_, _<_}
+use native.Mathlib.Omega.{arith}
+use borrow.Author.Tests.{le-leb, lt-leb, leb-true}
+use lib.Pow.{pow-pos, pow-add, pow-mono}
+use Rattle.sample.specs.Depth.{isDepth, Depth, areDepths, atMost}
+use Rattle.sample.specs.declared.Depths.{Depths}
+use Rattle.sample.proofs.Picks.{both-true, le-and, cannot}
+
+pub depth-yes : {n : ℕ} → Depth n → isDepth n ≡ true
+unfolding isDepth
+depth-yes d = rw (le-leb _ _ (d .least), le-leb _ _ (d .most))
+
+pub depth-of : (n : ℕ) → isDepth n ≡ true → Depth n
+unfolding isDepth
+depth-of n e = let t = le-and _ _ _ e in record { least = t .0; most = leb-true _ _ (t .1) }
+
+pub depth-no : {n : ℕ} → (Depth n → ⊥) → isDepth n ≡ false
+depth-no {n} f = cannot (isDepth n) (λ e. f (depth-of n e))
+
+-- three depths
+pub record AllDepths (r y c : ℕ) : Type 0 where
+  pub rgb : Depth r
+  pub luma : Depth y
+  pub chroma : Depth c
+
+pub depths-of : (r y c : ℕ) → areDepths r y c ≡ true → AllDepths r y c
+unfolding areDepths
+depths-of r y c e =
+    let t = both-true (isDepth r) _ e in
+    let u = both-true (isDepth y) _ (t .1) in
+    record { rgb = depth-of r (t .0); luma = depth-of y (u .0); chroma = depth-of c (u .1) }
+
+-- no depth above n
+pub record AtMost (n : ℕ) (d : Depths) : Type 0 where
+  pub rgb : d .rgb .0 ≤ n
+  pub luma : d .luma .0 ≤ n
+  pub chroma : d .chroma .0 ≤ n
+
+pub at-most-of : (n : ℕ) (d : Depths) → atMost n d ≡ true → AtMost n d
+unfolding atMost
+at-most-of n d e =
+    let t = le-and _ _ _ e in
+    let u = le-and _ _ _ (t .1) in
+    record { rgb = t .0; luma = u .0; chroma = leb-true _ _ (u .1) }
+
+pub at-most-yes : (n : ℕ) (d : Depths) → AtMost n d → atMost n d ≡ true
+unfolding atMost
+at-most-yes n d k = rw (le-leb _ _ (k .rgb), le-leb _ _ (k .luma), le-leb _ _ (k .chroma))
+
+pub at-most-no : (n : ℕ) (d : Depths) → (AtMost n d → ⊥) → atMost n d ≡ false
+at-most-no n d f = cannot (atMost n d) (λ e. f (at-most-of n d e))
+
+-- 2^d is 2·2^(d − 1) and 256·2^(d − 8), and at most 2^top
+pub record Powers (d top : ℕ) : Type 0 where
+  pub halves : 2 ^ d ≡ 2 * 2 ^ (d - 1)
+  pub bytes : 2 ^ d ≡ 256 * 2 ^ (d - 8)
+  pub some : 0 < 2 ^ (d - 8)
+  pub most : 2 ^ d ≤ 2 ^ top
+
+pub powers : (d top : ℕ) → 8 ≤ d → d ≤ top → Powers d top
+powers d top h u =
+    record
+      { halves = ap (λ n. 2 ^ n) (let e : d ≡ 1 + (d - 1) = omega arith in e) ∙ pow-add 2 1 (d - 1);
+        bytes = ap (λ n. 2 ^ n) (let e : d ≡ 8 + (d - 8) = omega arith in e) ∙ pow-add 2 8 (d - 8);
+        some = pow-pos (d - 8);
+        most = pow-mono {j = top} u }

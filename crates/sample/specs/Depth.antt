@@ -1,0 +1,75 @@
+-- A depth is a number from 8 to 16; with a luma matrix it is at most 12. These three numbers stand here alone.
+use mathlib.Core.Path.{_≡_}
+use mathlib.Core.Bool.{Bool, true, false, _&&_, cond}
+use Prim.Native.Nat.{ℕ, _^_, _≤_, _<_}
+use lib.Dec.{leb}
+use Rattle.sample.specs.declared.RgbDepth.{RgbDepth}
+use Rattle.sample.specs.declared.LumaDepth.{LumaDepth}
+use Rattle.sample.specs.declared.ChromaDepth.{ChromaDepth}
+use Rattle.sample.specs.declared.Depths.{Depths}
+use Rattle.sample.specs.declared.RgbChecked.{RgbChecked}
+use Rattle.sample.specs.declared.RgbChecked.the-variants as rgb
+use Rattle.sample.specs.declared.LumaChecked.{LumaChecked}
+use Rattle.sample.specs.declared.LumaChecked.the-variants as luma
+use Rattle.sample.specs.declared.ChromaChecked.{ChromaChecked}
+use Rattle.sample.specs.declared.ChromaChecked.the-variants as chroma
+use Rattle.sample.specs.declared.DepthsChecked.{DepthsChecked}
+use Rattle.sample.specs.declared.DepthsChecked.the-variants as depths
+
+abbrev pub leastDepth : ℕ
+leastDepth = 8
+
+abbrev pub mostDepth : ℕ
+mostDepth = 16
+
+abbrev pub mostLumaMatrixDepth : ℕ
+mostLumaMatrixDepth = 12
+
+-- whether n is a depth
+unfoldable pub isDepth : ℕ → Bool
+isDepth n = leb leastDepth n && leb n mostDepth
+
+-- the same as a fact
+pub record Depth (n : ℕ) : Type 0 where
+  pub least : leastDepth ≤ n
+  pub most : n ≤ mostDepth
+
+-- a number as a depth of each kind
+abbrev pub rgbDepth : ℕ → RgbDepth
+rgbDepth n = record { 0 = n }
+
+abbrev pub lumaDepth : ℕ → LumaDepth
+lumaDepth n = record { 0 = n }
+
+abbrev pub chromaDepth : ℕ → ChromaDepth
+chromaDepth n = record { 0 = n }
+
+abbrev pub depthsOf : ℕ → ℕ → ℕ → Depths
+depthsOf r y c = record { rgb = rgbDepth r; luma = lumaDepth y; chroma = chromaDepth c }
+
+-- the answers of the checks
+unfoldable pub rgbChecked : ℕ → RgbChecked
+rgbChecked n = cond (isDepth n) (rgb.Depth (rgbDepth n)) rgb.Outside
+
+unfoldable pub lumaChecked : ℕ → LumaChecked
+lumaChecked n = cond (isDepth n) (luma.Depth (lumaDepth n)) luma.Outside
+
+unfoldable pub chromaChecked : ℕ → ChromaChecked
+chromaChecked n = cond (isDepth n) (chroma.Depth (chromaDepth n)) chroma.Outside
+
+-- whether all three are depths
+unfoldable pub areDepths : ℕ → ℕ → ℕ → Bool
+areDepths r y c = isDepth r && (isDepth y && isDepth c)
+
+unfoldable pub depthsChecked : ℕ → ℕ → ℕ → DepthsChecked
+depthsChecked r y c = cond (areDepths r y c) (depths.Depths (depthsOf r y c)) depths.Outside
+
+-- whether no depth is above n
+unfoldable pub atMost : ℕ → Depths → Bool
+atMost n d = leb (d .rgb .0) n && (leb (d .luma .0) n && leb (d .chroma .0) n)
+
+-- r is 2^bits, of at most 16 bits
+pub record Power (bits r : ℕ) : Type 0 where
+  pub is : r ≡ 2 ^ bits
+  pub some : 0 < r
+  pub fits : r ≤ 65536

@@ -1,0 +1,2 @@
+-- Depths, in whole numbers.
+pub mod Depth

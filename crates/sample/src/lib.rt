@@ -1,0 +1,144 @@
+// What every crate above speaks of: depths of three kinds that cannot be taken for each other, and a pixel.
+ghost use mathlib.Core.Path.{_≡_};
+ghost use Prim.Native.Nat.{_^_, _≤_, _<_};
+ghost use Rattle.sample.specs.Depth.{rgbChecked, lumaChecked, chromaChecked, depthsChecked, atMost, Power};
+
+// Three samples, by plane: R, G, B on one side and Y, Cb, Cr on the other.
+pub struct Pixel {
+    pub p0: u16,
+    pub p1: u16,
+    pub p2: u16,
+}
+
+// The two ends of every depth, and the upper end for a luma matrix.
+pub const LEAST_DEPTH: u8 = 8;
+pub const MOST_DEPTH: u8 = 16;
+pub const MOST_LUMA_MATRIX_DEPTH: u8 = 12;
+
+pub struct RgbDepth(pub u8);
+
+pub struct LumaDepth(pub u8);
+
+pub struct ChromaDepth(pub u8);
+
+pub enum RgbChecked {
+    Depth(RgbDepth),
+    Outside,
+}
+
+pub enum LumaChecked {
+    Depth(LumaDepth),
+    Outside,
+}
+
+pub enum ChromaChecked {
+    Depth(ChromaDepth),
+    Outside,
+}
+
+impl RgbDepth {
+    pub const LEAST: u8 = LEAST_DEPTH;
+    pub const MOST: u8 = MOST_DEPTH;
+
+    pub fn checked(n: u8) -> RgbChecked
+        ensures { λ r. ⌜ r ≡ rgbChecked n ⌝ }
+    {
+        if n < Self::LEAST {
+            return RgbChecked::Outside;
+        }
+        if Self::MOST < n {
+            return RgbChecked::Outside;
+        }
+        RgbChecked::Depth(RgbDepth(n))
+    }
+}
+
+impl LumaDepth {
+    pub const LEAST: u8 = LEAST_DEPTH;
+    pub const MOST: u8 = MOST_DEPTH;
+
+    pub fn checked(n: u8) -> LumaChecked
+        ensures { λ r. ⌜ r ≡ lumaChecked n ⌝ }
+    {
+        if n < Self::LEAST {
+            return LumaChecked::Outside;
+        }
+        if Self::MOST < n {
+            return LumaChecked::Outside;
+        }
+        LumaChecked::Depth(LumaDepth(n))
+    }
+}
+
+impl ChromaDepth {
+    pub const LEAST: u8 = LEAST_DEPTH;
+    pub const MOST: u8 = MOST_DEPTH;
+
+    pub fn checked(n: u8) -> ChromaChecked
+        ensures { λ r. ⌜ r ≡ chromaChecked n ⌝ }
+    {
+        if n < Self::LEAST {
+            return ChromaChecked::Outside;
+        }
+        if Self::MOST < n {
+            return ChromaChecked::Outside;
+        }
+        ChromaChecked::Depth(ChromaDepth(n))
+    }
+}
+
+// The depths of a setting, past their check.
+pub struct Depths {
+    pub rgb: RgbDepth,
+    pub luma: LumaDepth,
+    pub chroma: ChromaDepth,
+}
+
+pub enum DepthsChecked {
+    Depths(Depths),
+    Outside,
+}
+
+impl Depths {
+    pub fn checked(rgb: u8, luma: u8, chroma: u8) -> DepthsChecked
+        ensures { λ r. ⌜ r ≡ depthsChecked rgb luma chroma ⌝ }
+    {
+        let RgbChecked::Depth(rgb) = RgbDepth::checked(rgb) else {
+            return DepthsChecked::Outside;
+        };
+        let LumaChecked::Depth(luma) = LumaDepth::checked(luma) else {
+            return DepthsChecked::Outside;
+        };
+        let ChromaChecked::Depth(chroma) = ChromaDepth::checked(chroma) else {
+            return DepthsChecked::Outside;
+        };
+        DepthsChecked::Depths(Depths { rgb, luma, chroma })
+    }
+
+    // Whether no depth is above `most`.
+    pub fn at_most(self, most: u8) -> bool
+        ensures { λ r. ⌜ r ≡ atMost most self ⌝ }
+    {
+        let rgb = self.rgb;
+        let luma = self.luma;
+        let chroma = self.chroma;
+        if most < rgb.0 {
+            return false;
+        }
+        if most < luma.0 {
+            return false;
+        }
+        if most < chroma.0 {
+            return false;
+        }
+        true
+    }
+}
+
+// 2^bits
+pub fn power(bits: u8) -> u32
+    requires { ⌜ bits ≤ 16 ⌝ }
+    ensures { λ r. ⌜ Power bits r ⌝ }
+{
+    1u32 << bits
+}
