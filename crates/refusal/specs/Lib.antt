@@ -1,0 +1,2 @@
+-- What a refusal is, and how the first row of a table is found.
+pub mod Table

@@ -1,0 +1,51 @@
+// The one refusal type of every call: a number, and a place where the number is 10.
+ghost use mathlib.Core.Path.{_≡_};
+ghost use Rattle.refusal.specs.Table.{plain, badAt};
+
+// Where a sample stands: its plane, row and column, counted from 0.
+pub struct Place {
+    pub plane: u8,
+    pub row: u16,
+    pub column: u16,
+}
+
+pub struct Refusal {
+    pub number: u8,
+    pub place: Place,
+}
+
+impl Refusal {
+    pub const RESERVED_MATRIX: u8 = 1;
+    pub const UNSPECIFIED_MATRIX: u8 = 2;
+    pub const UNSERVED_MATRIX: u8 = 3;
+    pub const RESERVED_PRIMARIES: u8 = 4;
+    pub const RESERVED_TRANSFER: u8 = 5;
+    pub const DEPTH_OUTSIDE: u8 = 6;
+    pub const DISAGREEMENT: u8 = 7;
+    pub const SIZE_OUTSIDE: u8 = 8;
+    pub const PLANE_SHORT: u8 = 9;
+    pub const SAMPLE_BEYOND_DEPTH: u8 = 10;
+    pub const NOT_FOR_THIS_SETTING: u8 = 11;
+
+    // A refusal that names no place.
+    pub fn plain(number: u8) -> Refusal
+        ensures { λ r. ⌜ r ≡ plain number ⌝ }
+    {
+        let place = Place {
+            plane: 0,
+            row: 0,
+            column: 0,
+        };
+        Refusal { number, place }
+    }
+
+    // Refusal 10, with the place of the sample.
+    pub fn bad_at(place: Place) -> Refusal
+        ensures { λ r. ⌜ r ≡ badAt place ⌝ }
+    {
+        Refusal {
+            number: Self::SAMPLE_BEYOND_DEPTH,
+            place,
+        }
+    }
+}
