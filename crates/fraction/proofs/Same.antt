@@ -33,12 +33,12 @@ Round-≈ {x} {y} p q e =
 
 -- the same value, said of the numerators' parts
 pub to-parts : {x y : Frac} (r : Parts (x .num)) (s : Parts (y .num)) → x ≈ y
-  → r .plus * y .den + s .minus * x .den ≡ s .plus * x .den + r .minus * y .den
+    → r .plus * y .den + s .minus * x .den ≡ s .plus * x .den + r .minus * y .den
 to-parts {x} {y} r s e =
     apart {x = x .num *ℤ pos (y .den)} {y = y .num *ℤ pos (x .den)} (search parts) (search parts) (e .crossed)
 
 pub by-parts : {x y : Frac} (r : Parts (x .num)) (s : Parts (y .num))
-  → r .plus * y .den + s .minus * x .den ≡ s .plus * x .den + r .minus * y .den → x ≈ y
+    → r .plus * y .den + s .minus * x .den ≡ s .plus * x .den + r .minus * y .den → x ≈ y
 by-parts {x} {y} r s e =
     record { crossed = same {x = x .num *ℤ pos (y .den)} {y = y .num *ℤ pos (x .den)} (search parts) (search parts) e }
 
@@ -49,7 +49,7 @@ pub ≈-sym : {x y : Frac} → x ≈ y → y ≈ x
 ≈-sym e = record { crossed = sym (e .crossed) }
 
 trans-numbers : (a b d c e f g h k : ℕ) → 0 < f → a * f + e * d ≡ c * d + b * f → c * k + h * f ≡ g * f + e * k
-  → (a * k + h * d) * f ≡ (g * d + b * k) * f
+    → (a * k + h * d) * f ≡ (g * d + b * k) * f
 trans-numbers a b d c e f g h k p u v = omega (arith, ap (λ n. n * k) u, ap (λ n. n * d) v)
 
 pub ≈-trans : {x y z : Frac} → 0 < y .den → x ≈ y → y ≈ z → x ≈ z

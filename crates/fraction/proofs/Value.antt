@@ -15,7 +15,7 @@ pub record Value (x : Frac) (z : ℤ) (D : ℕ) : Type 0 where
   pub is : x ≈ part z D
 
 sum-numbers : (a b d a' b' d' z z' w w' D : ℕ) → a * D + z' * d ≡ z * d + b * D → a' * D + w' * d' ≡ w * d' + b' * D
-  → (a * d' + a' * d) * D + (z' + w') * (d * d') ≡ (z + w) * (d * d') + (b * d' + b' * d) * D
+    → (a * d' + a' * d) * D + (z' + w') * (d * d') ≡ (z + w) * (d * d') + (b * d' + b' * d) * D
 sum-numbers a b d a' b' d' z z' w w' D u v =
     simp ring (omega (arith, simp ring at (ap (λ n. n * d') u), simp ring at (ap (λ n. n * d) v)))
 
@@ -41,7 +41,7 @@ module _ {x y : Frac} {z w : ℤ} {D : ℕ} (u : x ≈ part z D) (v : y ≈ part
       (to-parts r s u) (omega (arith, to-parts r' s' v)))
 
 times-numbers : (p q a b d z z' D n : ℕ) → a * D + z' * d ≡ z * d + b * D
-  → (p * a + q * b) * (n * D) + (p * z' + q * z) * (n * d) ≡ (p * z + q * z') * (n * d) + (p * b + q * a) * (n * D)
+    → (p * a + q * b) * (n * D) + (p * z' + q * z) * (n * d) ≡ (p * z + q * z') * (n * d) + (p * b + q * a) * (n * D)
 times-numbers p q a b d z z' D n u =
     simp ring (omega (arith, simp ring at (ap (λ k. k * (n * p)) u), simp ring at (ap (λ k. k * (n * q)) u)))
 
@@ -67,7 +67,7 @@ regroup : (a n D m e : ℕ) → n * (a * e * (m * D)) ≡ a * (n * D) * (m * e)
 regroup a n D m e = simp ring
 
 over-numbers : (a b d z z' D n m e N : ℕ) → a * (n * D) + z' * d ≡ z * d + b * (n * D) → N * n ≡ m * e
-  → n * (a * e * (m * D) + z' * (d * N)) ≡ n * (z * (d * N) + b * e * (m * D))
+    → n * (a * e * (m * D) + z' * (d * N)) ≡ n * (z * (d * N) + b * e * (m * D))
 over-numbers a b d z z' D n m e N u v =
     let f : n * (z' * (d * N)) ≡ z' * d * (N * n) = simp ring in
     let g : n * (z * (d * N)) ≡ z * d * (N * n) = simp ring in
@@ -95,7 +95,7 @@ pub ⊗-value : (m : ℤ) (n : ℕ) → 0 < n → {x : Frac} {z : ℤ} {D : ℕ}
 
 -- a fraction y, which is m / n and above 0, puts m for the n of the denominator
 pub ÷-value : {x : Frac} (y : Frac) {z : ℤ} (D n m : ℕ) → 0 < n → 0 < natAbs (y .num) → Value x z (n * D)
-  → natAbs (y .num) * n ≡ m * y .den → Value (x ÷ y) z (m * D)
+    → natAbs (y .num) * n ≡ m * y .den → Value (x ÷ y) z (m * D)
 ÷-value y D n m p q u v = record { proper = mul-pos (u .proper) q; is = quotient y D n m p (u .is) v }
 
 -- both multiplied by n

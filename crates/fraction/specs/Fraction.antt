@@ -11,7 +11,6 @@ pub record Frac : Type 0 where
 infixl 6 _⊕_ _⊖_
 infixl 7 _⊗_ _÷_
 infixl 4 _≈_
-
 -- z / d, and a natural number as a fraction
 abbrev pub part : ℤ → ℕ → Frac
 part z d = record { num = z; den = d }

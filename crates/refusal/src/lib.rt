@@ -16,15 +16,25 @@ pub struct Refusal {
 
 impl Refusal {
     pub const RESERVED_MATRIX: u8 = 1;
+
     pub const UNSPECIFIED_MATRIX: u8 = 2;
+
     pub const UNSERVED_MATRIX: u8 = 3;
+
     pub const RESERVED_PRIMARIES: u8 = 4;
+
     pub const RESERVED_TRANSFER: u8 = 5;
+
     pub const DEPTH_OUTSIDE: u8 = 6;
+
     pub const DISAGREEMENT: u8 = 7;
+
     pub const SIZE_OUTSIDE: u8 = 8;
+
     pub const PLANE_SHORT: u8 = 9;
+
     pub const SAMPLE_BEYOND_DEPTH: u8 = 10;
+
     pub const NOT_FOR_THIS_SETTING: u8 = 11;
 
     // A refusal that names no place.

@@ -62,8 +62,9 @@ pub record Powers (d top : ℕ) : Type 0 where
 
 pub powers : (d top : ℕ) → 8 ≤ d → d ≤ top → Powers d top
 powers d top h u =
-    record
-      { halves = ap (λ n. 2 ^ n) (let e : d ≡ 1 + (d - 1) = omega arith in e) ∙ pow-add 2 1 (d - 1);
-        bytes = ap (λ n. 2 ^ n) (let e : d ≡ 8 + (d - 8) = omega arith in e) ∙ pow-add 2 8 (d - 8);
-        some = pow-pos (d - 8);
-        most = pow-mono {j = top} u }
+    record {
+      halves = ap (λ n. 2 ^ n) (let e : d ≡ 1 + (d - 1) = omega arith in e) ∙ pow-add 2 1 (d - 1);
+      bytes = ap (λ n. 2 ^ n) (let e : d ≡ 8 + (d - 8) = omega arith in e) ∙ pow-add 2 8 (d - 8);
+      some = pow-pos (d - 8);
+      most = pow-mono {j = top} u;
+    }

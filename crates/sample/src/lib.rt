@@ -12,7 +12,9 @@ pub struct Pixel {
 
 // The two ends of every depth, and the upper end for a luma matrix.
 pub const LEAST_DEPTH: u8 = 8;
+
 pub const MOST_DEPTH: u8 = 16;
+
 pub const MOST_LUMA_MATRIX_DEPTH: u8 = 12;
 
 pub struct RgbDepth(pub u8);
@@ -38,6 +40,7 @@ pub enum ChromaChecked {
 
 impl RgbDepth {
     pub const LEAST: u8 = LEAST_DEPTH;
+
     pub const MOST: u8 = MOST_DEPTH;
 
     pub fn checked(n: u8) -> RgbChecked
@@ -55,6 +58,7 @@ impl RgbDepth {
 
 impl LumaDepth {
     pub const LEAST: u8 = LEAST_DEPTH;
+
     pub const MOST: u8 = MOST_DEPTH;
 
     pub fn checked(n: u8) -> LumaChecked
@@ -72,6 +76,7 @@ impl LumaDepth {
 
 impl ChromaDepth {
     pub const LEAST: u8 = LEAST_DEPTH;
+
     pub const MOST: u8 = MOST_DEPTH;
 
     pub fn checked(n: u8) -> ChromaChecked

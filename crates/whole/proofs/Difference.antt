@@ -82,10 +82,11 @@ parts-neg {z} r = record { plus = r .minus; minus = r .plus; holds = negated z (
 
 abbrev pub parts-add : {x y : ℤ} → Parts x → Parts y → Parts (x +ℤ y)
 parts-add {x} {y} r s =
-    record
-      { plus = r .plus + s .plus;
-        minus = r .minus + s .minus;
-        holds = added x y (r .plus) (r .minus) (s .plus) (s .minus) (r .holds) (s .holds) }
+    record {
+      plus = r .plus + s .plus;
+      minus = r .minus + s .minus;
+      holds = added x y (r .plus) (r .minus) (s .plus) (s .minus) (r .holds) (s .holds);
+    }
 
 abbrev pub parts-half : {z : ℤ} → Parts z → Parts (half z)
 parts-half {z} r =
@@ -100,13 +101,22 @@ parts-scale-right k {z} r =
 
 abbrev pub parts-times : {x y : ℤ} → Parts x → Parts y → Parts (x *ℤ y)
 parts-times {x} {y} r s =
-    record
-      { plus = r .plus * s .plus + r .minus * s .minus;
-        minus = r .plus * s .minus + r .minus * s .plus;
-        holds = multiplied x y (r .plus) (r .minus) (s .plus) (s .minus) (r .holds) (s .holds) }
+    record {
+      plus = r .plus * s .plus + r .minus * s .minus;
+      minus = r .plus * s .minus + r .minus * s .plus;
+      holds = multiplied x y (r .plus) (r .minus) (s .plus) (s .minus) (r .holds) (s .holds);
+    }
 
 pub ruleset parts = (
-  parts-pos, parts-negsuc, parts-sub, parts-neg, parts-add, parts-half, parts-scale, parts-scale-right, parts-times,
+  parts-pos,
+  parts-negsuc,
+  parts-sub,
+  parts-neg,
+  parts-add,
+  parts-half,
+  parts-scale,
+  parts-scale-right,
+  parts-times,
 )
 
 -- Any whole number is what it has above zero less what it has below.

@@ -90,8 +90,11 @@ enum-told-3 c = search needs
 returns-3 : tie.Need-returns-3
 unfolding depthsChecked areDepths
 returns-3 c =
-    rw (first (c .before .before .before .before .before .before .before .before) .0, second (c .before .before .before .before) .0,
-      chroma-no _ (sym (c .before .before .checked3 .ensures) ∙ c .enum-told3 .given .1))
+    rw (
+      first (c .before .before .before .before .before .before .before .before) .0,
+      second (c .before .before .before .before) .0,
+      chroma-no _ (sym (c .before .before .checked3 .ensures) ∙ c .enum-told3 .given .1),
+    )
 
 returns-4 : tie.Need-returns-4
 unfolding depthsChecked areDepths
