@@ -1,9 +1,11 @@
 //! Answers case texts: takes one case line at a time and writes its answer.
 //!
 //! Pixel cases: `f` forward, `r` reverse, `s` source check, `m` meter of a
-//! pixel, `y` `b` `c` meter of one sample, `p` `t` `x` labels.
+//! pixel, `y` `b` `c` meter of one sample, `p` `t` `x` labels. Frame cases:
+//! `F` forward, `R` reverse, `I` image check. The answer to `F` and `R` has
+//! four lines, the last three of them the output planes; all others have one.
 
-use crate::rules::{self, Label, Pixel, Refusal, Setting, Way};
+use crate::rules::{self, Label, Pixel, Refusal, Setting, Side, Way};
 use crate::words::Words;
 
 /// The answers to a whole text, or words that name the line at fault.
@@ -36,6 +38,9 @@ fn answer_line(line: &str) -> Result<String, String> {
         "p" => label_case(words, rules::primaries_label),
         "t" => label_case(words, rules::transfer_label),
         "x" => label_case(words, rules::matrix_label),
+        "F" => frame_case(words, Way::Forward),
+        "R" => frame_case(words, Way::Reverse),
+        "I" => image_case(words),
         other => Err(format!("'{}' is not a kind of case", other)),
     }
 }
@@ -67,6 +72,54 @@ fn label_case(mut words: Words, label: fn(u8) -> Label) -> Result<String, String
         Label::Reserved => "reserved",
     };
     Ok(String::from(answer))
+}
+
+fn frame_case(mut words: Words, way: Way) -> Result<String, String> {
+    let setting = words.setting()?;
+    let size = words.size()?;
+    let source_stride = words.number()?;
+    let output_stride = words.number()?;
+    let source = Side {
+        stride: source_stride,
+        planes: words.planes()?,
+    };
+    let lengths: [usize; 3] = [words.number()?, words.number()?, words.number()?];
+    let fill: u16 = words.number()?;
+    words.end()?;
+    let mut output = Side {
+        stride: output_stride,
+        planes: lengths.map(|length| old_contents(length, fill)),
+    };
+    let outcome = rules::convert_frame(&setting, way, size, &source, &mut output);
+    let mut lines = vec![outcome.map_or_else(refused, |()| String::from("done"))];
+    lines.extend(output.planes.iter().map(|plane| elements(plane)));
+    Ok(lines.join("\n"))
+}
+
+/// What an output plane holds before the call; an answer never shows it.
+fn old_contents(length: usize, fill: u16) -> Vec<u16> {
+    let element = |index: usize| (u64::from(fill) + 7919 * index as u64) % 65536;
+    (0..length).map(|index| element(index) as u16).collect()
+}
+
+fn elements(plane: &[u16]) -> String {
+    let words: Vec<String> = plane.iter().map(u16::to_string).collect();
+    words.join(" ")
+}
+
+fn image_case(mut words: Words) -> Result<String, String> {
+    let setting = words.setting()?;
+    let size = words.size()?;
+    let ycc = Side {
+        stride: words.number()?,
+        planes: words.planes()?,
+    };
+    words.end()?;
+    let found = rules::first_without_source(&setting, size, &ycc);
+    Ok(found.map_or_else(refused, |place| match place {
+        None => String::from("yes"),
+        Some((row, column)) => format!("none row {} column {}", row, column),
+    }))
 }
 
 fn samples(pixel: Pixel) -> String {

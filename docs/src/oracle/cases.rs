@@ -2,6 +2,7 @@
 //! systematic ones are in every text.
 
 use crate::halves::{self, Target, Wanted};
+use crate::pixels;
 use crate::random::Random;
 use crate::rules::{converted, source_depths, Pixel, Setting, Way};
 use crate::settings::{self, Kind, KINDS, LUMA_CODES};
@@ -117,7 +118,7 @@ impl Cases {
         } else {
             Way::Reverse
         };
-        source_depths(s, way).map(|depth| self.random.sample(depth.min(16)))
+        pixels::within_depth(&mut self.random, s, way)
     }
 
     fn call_within_depth(&mut self, letter: char, s: &Setting) {
@@ -413,39 +414,20 @@ impl Cases {
         }
     }
 
-    /// An RGB pixel with samples at or near the ends of the depth.
-    fn extreme_rgb(&mut self, s: &Setting) -> Pixel {
-        let largest = ((1u32 << s.rgb_depth) - 1) as u16;
-        [0; 3].map(|_| {
-            let any = self.random.sample(s.rgb_depth);
-            self.random
-                .pick(&[0, 0, 1, largest - 1, largest, largest, any])
-        })
-    }
-
-    /// A pixel near the one given, within depth: one sample moved a little.
-    fn moved(&mut self, s: &Setting, ycc: Pixel) -> Pixel {
-        let plane = self.random.below(3) as usize;
-        let step = self.random.pick(&[-2, -1, -1, 1, 1, 2]);
-        let largest = (1i32 << source_depths(s, Way::Reverse)[plane]) - 1;
-        let mut near = ycc;
-        near[plane] = (i32::from(ycc[plane]) + step).max(0).min(largest) as u16;
-        near
-    }
-
     /// On each lossless setting: a pixel with a source at the edge of depth,
     /// pixels next to such ones, and one from anywhere.
     fn sources(&mut self) {
         for mut s in all_accepted(|kind| kind.1) {
             settings::relabel(&mut self.random, &mut s);
-            let rgb = self.extreme_rgb(&s);
+            let rgb = pixels::extreme_rgb(&mut self.random, &s);
             let ycc = converted(&s, Way::Forward, rgb);
             self.call('f', &s, rgb);
             self.call('s', &s, ycc);
             self.call('r', &s, ycc);
             for _ in 0..2 {
-                let rgb = self.extreme_rgb(&s);
-                let near = self.moved(&s, converted(&s, Way::Forward, rgb));
+                let rgb = pixels::extreme_rgb(&mut self.random, &s);
+                let ycc = converted(&s, Way::Forward, rgb);
+                let near = pixels::moved(&mut self.random, &s, ycc);
                 self.call('s', &s, near);
                 self.call('r', &s, near);
             }
@@ -458,9 +440,9 @@ impl Cases {
         for mut s in settings::accepted((8, false)) {
             settings::relabel(&mut self.random, &mut s);
             for _ in 0..4 {
-                let rgb = self.extreme_rgb(&s);
+                let rgb = pixels::extreme_rgb(&mut self.random, &s);
                 let ycc = converted(&s, Way::Forward, rgb);
-                let near = self.moved(&s, ycc);
+                let near = pixels::moved(&mut self.random, &s, ycc);
                 self.call('r', &s, near);
             }
         }

@@ -7,7 +7,10 @@
 mod answers;
 mod cases;
 mod fraction;
+mod frame_cases;
 mod halves;
+mod paper;
+mod pixels;
 mod random;
 mod rules;
 mod self_test;
@@ -18,6 +21,7 @@ use std::io::{self, Read, Write};
 use std::process::exit;
 
 const USAGE: &str = "usage: oracle pixel-cases SEED   writes pixel cases
+       oracle frame-cases SEED   writes frame cases
        oracle answer             reads cases, writes their answers
        oracle self-test          checks the oracle itself";
 
@@ -26,6 +30,7 @@ fn main() {
     let words: Vec<&str> = words.iter().map(String::as_str).collect();
     let outcome = match words[..] {
         ["pixel-cases", seed] => parsed_seed(seed).map(cases::pixel_cases),
+        ["frame-cases", seed] => parsed_seed(seed).map(frame_cases::frame_cases),
         ["answer"] => standard_input().and_then(|cases| answers::answer_text(&cases)),
         ["self-test"] => self_test::run(),
         _ => Err(String::from(USAGE)),

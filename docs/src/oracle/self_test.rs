@@ -5,7 +5,9 @@
 use crate::answers::answer_text;
 use crate::cases::pixel_cases;
 use crate::fraction::Fraction;
+use crate::frame_cases::frame_cases;
 use crate::halves::Target;
+use crate::paper::{EDGES, FRAMES, FRAME_ORDER, PIXELS, PIXEL_ORDER, REFUSALS};
 use crate::random::Random;
 use crate::rules::{
     convert_pixel, converted, has_source, levels_forward, levels_reverse, output_depths,
@@ -22,90 +24,44 @@ pub fn run() -> Result<String, String> {
     let mut test = Test { checks: 0 };
     test.rounding()?;
     test.labels()?;
-    test.paper_lines(&PAPER_PIXELS)?;
-    test.paper_lines(&PAPER_EDGES)?;
-    test.refusal_order()?;
+    for lines in [
+        &PIXELS[..],
+        &EDGES,
+        &REFUSALS,
+        &PIXEL_ORDER,
+        &FRAMES,
+        &FRAME_ORDER,
+    ] {
+        test.lines(lines)?;
+    }
     test.tiny_sources()?;
     test.all_eight_bit_sources()?;
     test.lossless_round_trips()?;
     test.solved_levels()?;
     test.greys()?;
-    test.halves_in_cases()?;
+    test.pixel_texts()?;
+    test.frame_texts()?;
     Ok(format!("oracle: {} checks\n", test.checks))
 }
 
-/// The paper's table of pixels. Where it leaves the flags open, both pairs of
-/// equal flags are here.
-const PAPER_PIXELS: [(&str, &str); 22] = [
-    ("f 1 1 8 8 8 9 0 0 255 0 0", "samples 63 129 511"),
-    ("f 1 1 8 8 8 9 1 1 255 0 0", "samples 63 129 511"),
-    ("f 1 1 8 8 8 9 0 0 0 255 0", "samples 127 511 256"),
-    ("f 1 1 8 8 8 9 1 1 0 255 0", "samples 127 511 256"),
-    ("f 1 1 8 8 8 9 0 0 0 0 255", "samples 63 129 1"),
-    ("f 1 1 8 8 8 9 1 1 0 0 255", "samples 63 129 1"),
-    ("r 1 1 8 8 8 9 0 0 63 129 511", "samples 255 0 0"),
-    ("r 1 1 8 8 8 9 1 1 63 129 511", "samples 255 0 0"),
-    ("f 1 1 15 8 10 10 0 0 255 0 0", "samples 63 385 767"),
-    ("f 1 1 15 8 10 10 1 1 255 0 0", "samples 63 385 767"),
-    ("f 1 1 8 8 8 8 0 0 0 255 0", "samples 128 255 128"),
-    ("f 1 1 8 8 8 8 1 1 0 255 0", "samples 128 255 128"),
-    ("r 1 1 8 8 8 8 1 1 128 255 128", "samples 1 255 1"),
-    ("f 1 1 1 8 8 8 1 1 0 0 255", "samples 18 255 116"),
-    ("r 1 1 1 8 8 8 1 1 18 255 116", "samples 0 0 254"),
-    ("f 1 1 1 8 8 8 1 0 0 0 255", "samples 32 240 118"),
-    ("f 1 1 1 10 8 8 0 0 1023 1023 1023", "samples 255 128 128"),
-    ("f 1 1 9 8 8 8 1 1 128 128 128", "samples 128 128 128"),
-    ("f 1 1 16 8 9 9 0 0 255 0 0", "samples 63 129 511"),
-    ("f 1 1 16 8 9 9 1 1 255 0 0", "samples 63 129 511"),
-    ("s 1 1 8 8 8 9 1 1 63 129 511", "yes"),
-    ("s 1 1 8 8 8 9 1 1 0 256 511", "none"),
-];
-
-/// The paper's edges and meter values, and one case for each refusal that a
-/// pixel call can give.
-const PAPER_EDGES: [(&str, &str); 29] = [
-    ("f 1 1 8 8 8 8 1 1 0 0 0", "samples 0 128 128"),
-    ("f 1 1 8 7 7 7 1 1 0 0 0", "refused 6"),
-    ("f 1 1 1 12 12 12 1 1 0 0 0", "samples 0 2048 2048"),
-    ("f 1 1 1 13 12 12 1 1 0 0 0", "refused 6"),
-    ("f 1 1 1 12 13 12 1 1 0 0 0", "refused 6"),
-    ("f 1 1 1 12 12 13 1 1 0 0 0", "refused 6"),
-    ("f 1 1 8 15 15 16 1 1 0 0 0", "samples 0 32768 32768"),
-    ("f 1 1 8 16 16 17 1 1 0 0 0", "refused 6"),
-    ("f 1 1 16 16 16 16 1 1 0 0 0", "refused 7"),
-    ("f 1 1 16 15 16 16 1 1 0 0 0", "samples 0 32768 32768"),
-    ("f 1 1 17 15 16 16 1 1 0 0 0", "refused 1"),
-    ("f 1 1 3 99 99 99 1 1 0 0 0", "refused 1"),
-    ("y 1 1 1 8 8 8 0 0 235", "level 3f800000"),
-    ("y 1 1 1 8 8 8 0 0 16", "level 00000000"),
-    ("b 1 1 1 8 8 8 0 0 240", "level 3f000000"),
-    (
-        "m 1 1 1 8 8 8 0 0 235 240 16",
-        "levels 3f800000 3f000000 bf000000",
-    ),
-    ("f 1 1 2 8 8 8 1 1 0 0 0", "refused 2"),
-    ("f 1 1 10 8 8 8 1 1 0 0 0", "refused 3"),
-    ("f 1 1 14 8 8 8 1 1 0 0 0", "refused 3"),
-    ("f 3 1 1 8 8 8 1 1 0 0 0", "refused 4"),
-    ("f 1 3 1 8 8 8 1 1 0 0 0", "refused 5"),
-    ("f 1 1 1 8 8 9 1 1 0 0 0", "refused 7"),
-    ("s 1 1 8 8 8 8 1 1 999 0 0", "refused 11"),
-    ("m 1 1 0 8 8 8 1 1 999 0 0", "refused 11"),
-    (
-        "f 1 1 0 8 8 8 1 1 0 256 256",
-        "refused 10 plane 1 row 0 column 0",
-    ),
-    (
-        "s 1 1 8 8 8 9 1 1 0 511 512",
-        "refused 10 plane 2 row 0 column 0",
-    ),
-    ("c 1 1 1 8 8 8 1 1 256", "refused 10 plane 2 row 0 column 0"),
-    (
-        "m 1 1 1 8 8 8 1 1 255 256 256",
-        "refused 10 plane 1 row 0 column 0",
-    ),
-    // A half below zero: (0 - 1) / 2 goes to -1, not to 0.
-    ("f 1 1 8 8 8 8 1 1 0 0 1", "samples 0 128 127"),
+/// How the first lines of frame answers start; the place of 10 by its plane.
+const FRAME_ANSWERS: [&str; 16] = [
+    "done",
+    "yes",
+    "none row 0",
+    "none row 1",
+    "refused 1",
+    "refused 2",
+    "refused 3",
+    "refused 4",
+    "refused 5",
+    "refused 6",
+    "refused 7",
+    "refused 8",
+    "refused 9",
+    "refused 10 plane 0",
+    "refused 10 plane 2",
+    "refused 11",
 ];
 
 /// The four lossless forms at an RGB depth, which need not be a served one.
@@ -234,31 +190,11 @@ impl Test {
         self.equal(&|| String::from(case), answer, format!("{}\n", wanted))
     }
 
-    fn paper_lines(&mut self, lines: &[(&str, &str)]) -> Checked {
+    fn lines(&mut self, lines: &[(&str, &str)]) -> Checked {
         for (case, wanted) in lines {
             self.line(case, wanted)?;
         }
         Ok(())
-    }
-
-    /// Starts from a case that breaks every row and mends one row after the
-    /// other: the answers have to go down the table.
-    fn refusal_order(&mut self) -> Checked {
-        self.paper_lines(&[
-            ("s 0 0 17 99 8 9 0 1 65535 0 0", "refused 1"),
-            ("s 0 0 2 99 8 9 0 1 65535 0 0", "refused 2"),
-            ("s 0 0 12 99 8 9 0 1 65535 0 0", "refused 3"),
-            ("s 0 0 8 99 8 9 0 1 65535 0 0", "refused 4"),
-            ("s 1 0 8 99 8 9 0 1 65535 0 0", "refused 5"),
-            ("s 1 1 8 99 8 9 0 1 65535 0 0", "refused 6"),
-            ("s 1 1 8 8 8 9 0 1 65535 0 0", "refused 7"),
-            ("s 1 1 8 8 8 8 1 1 65535 0 0", "refused 11"),
-            (
-                "s 1 1 8 8 8 9 1 1 65535 0 0",
-                "refused 10 plane 0 row 0 column 0",
-            ),
-            ("s 1 1 8 8 8 9 1 1 0 256 256", "yes"),
-        ])
     }
 
     /// The source check of every YCbCr pixel against the pixels that the
@@ -363,8 +299,9 @@ impl Test {
         Ok(())
     }
 
-    /// The pixel cases hold enough exact halves of every sort.
-    fn halves_in_cases(&mut self) -> Checked {
+    /// The pixel cases are about as many as wanted, and hold enough exact
+    /// halves of every sort.
+    fn pixel_texts(&mut self) -> Checked {
         for seed in [0, 1, 2] {
             let cases = pixel_cases(seed);
             let mut found = Halves::default();
@@ -383,6 +320,38 @@ impl Test {
             )?;
         }
         Ok(())
+    }
+
+    /// The frame cases are as many and as short as wanted, every answer is
+    /// among theirs, and old contents of the output don't matter.
+    fn frame_texts(&mut self) -> Checked {
+        for seed in [0, 1, 2] {
+            let cases = frame_cases(seed);
+            let answers = answer_text(&cases)?;
+            let what = || format!("size of the frame cases of seed {}", seed);
+            self.holds(&what, cases.lines().count() >= 2000)?;
+            self.holds(&what, cases.len() < 2_200_000)?;
+            self.holds(&what, cases.len() + answers.len() < 4_000_000)?;
+            self.holds(&what, cases.lines().all(|line| line.len() < 200_000))?;
+            for start in FRAME_ANSWERS {
+                let what = || format!("'{}' among the answers of seed {}", start, seed);
+                let longer = format!("{} ", start);
+                let fits = |line: &&str| *line == start || line.starts_with(&longer);
+                self.holds(&what, answers.lines().filter(fits).count() >= 20)?;
+            }
+            let refilled: String = cases.lines().map(refilled).collect();
+            let what = || format!("old contents in the frame cases of seed {}", seed);
+            self.equal(&what, answer_text(&refilled)?, answers)?;
+        }
+        Ok(())
+    }
+}
+
+/// A frame case with other old contents of its output planes.
+fn refilled(case: &str) -> String {
+    match case.rsplit_once(' ') {
+        Some((before, _)) if !case.starts_with('I') => format!("{} 4711\n", before),
+        _ => format!("{}\n", case),
     }
 }
 

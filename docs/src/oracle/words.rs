@@ -1,7 +1,7 @@
 //! Reads the words of one case line: separated by one blank each, numbers in
 //! decimal. Everything else is an error in words.
 
-use crate::rules::{Pixel, Setting};
+use crate::rules::{Pixel, Setting, Size};
 use std::str::{FromStr, Split};
 
 pub struct Words<'a> {
@@ -56,6 +56,23 @@ impl<'a> Words<'a> {
 
     pub fn pixel(&mut self) -> Result<Pixel, String> {
         Ok([self.number()?, self.number()?, self.number()?])
+    }
+
+    pub fn size(&mut self) -> Result<Size, String> {
+        Ok(Size {
+            width: self.number()?,
+            height: self.number()?,
+        })
+    }
+
+    /// Three planes, each as its length and then its elements.
+    pub fn planes(&mut self) -> Result<[Vec<u16>; 3], String> {
+        Ok([self.plane()?, self.plane()?, self.plane()?])
+    }
+
+    fn plane(&mut self) -> Result<Vec<u16>, String> {
+        let length: usize = self.number()?;
+        (0..length).map(|_| self.number()).collect()
     }
 
     pub fn end(mut self) -> Result<(), String> {
