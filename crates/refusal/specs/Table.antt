@@ -1,7 +1,9 @@
 -- A table of refusals is a list of rows, each a number and whether it applies. The first row that applies gives the number.
+use mathlib.Core.Path.{_≡_}
 use mathlib.Core.Bool.{Bool, true, false, cond}
 use mathlib.Core.List.{List, [], _∷_}
 use Prim.Native.Nat.{ℕ}
+use lib.Dec.{eqb}
 use Rattle.refusal.specs.declared.Place.{Place}
 use Rattle.refusal.specs.declared.Refusal.{Refusal}
 
@@ -16,6 +18,25 @@ row n b = record { number = n; applies = b }
 unfoldable pub first : List Row → ℕ
 first [] = 0
 first (r ∷ rs) = cond (r .applies) (r .number) (first rs)
+
+-- a number that is not 0, or else the other: what two tables say, one after the other
+abbrev pub orElse : ℕ → ℕ → ℕ
+orElse n m = cond (eqb n 0) m n
+
+-- Row n applies and no earlier row does.
+pub data FirstIs (n : ℕ) : List Row → Type 0 where
+  here : {rs : List Row} → FirstIs n (row n true ∷ rs)
+  later : {k : ℕ} {rs : List Row} → FirstIs n rs → FirstIs n (row k false ∷ rs)
+
+-- No row applies.
+pub data NoRow : List Row → Type 0 where
+  end : NoRow []
+  past : {k : ℕ} {rs : List Row} → NoRow rs → NoRow (row k false ∷ rs)
+
+-- Every row has a number that is not 0.
+abbrev pub Numbered : List Row → Type 0
+Numbered [] = Unit
+Numbered (r ∷ rs) = (eqb (r .number) 0 ≡ false) × Numbered rs
 
 -- a place, and the place that a refusal other than 10 has: none, written as zeros
 abbrev pub at : ℕ → ℕ → ℕ → Place

@@ -1,13 +1,14 @@
 -- Laws of depths: the test and the fact, and the powers that follow from a depth.
 use mathlib.Core.Path.{_≡_, refl, ap, _∙_}
-use mathlib.Core.Bool.{Bool, true, false, _&&_}
+use mathlib.Core.Bool.{Bool, true, false, _&&_, cond}
 use Prim.Native.Nat.{ℕ, _+_, _*_, _-_, _^_, _≤_, _<_}
 use native.Mathlib.Omega.{arith}
 use borrow.Author.Tests.{le-leb, lt-leb, leb-true}
 use lib.Pow.{pow-pos, pow-add, pow-mono}
 use Rattle.sample.specs.Depth.{isDepth, Depth, areDepths, atMost}
 use Rattle.sample.specs.declared.Depths.{Depths}
-use Rattle.sample.proofs.Picks.{both-true, le-and, cannot}
+use Rattle.sample.specs.declared.DepthsChecked.the-variants as checked
+use Rattle.sample.proofs.Picks.{both-true, le-and, cannot, chose-first, chose-second}
 
 pub depth-yes : {n : ℕ} → Depth n → isDepth n ≡ true
 unfolding isDepth
@@ -53,6 +54,10 @@ at-most-yes n d k = rw (le-leb _ _ (k .rgb), le-leb _ _ (k .luma), le-leb _ _ (k
 pub at-most-no : (n : ℕ) (d : Depths) → (AtMost n d → ⊥) → atMost n d ≡ false
 at-most-no n d f = cannot (atMost n d) (λ e. f (at-most-of n d e))
 
+-- 2^d is 2·2^(d − 1), for d that is not 0
+pub doubles : (d : ℕ) → 1 ≤ d → 2 ^ d ≡ 2 * 2 ^ (d - 1)
+doubles d h = ap (λ n. 2 ^ n) (let e : d ≡ 1 + (d - 1) = omega arith in e) ∙ pow-add 2 1 (d - 1)
+
 -- 2^d is 2·2^(d − 1) and 256·2^(d − 8), and at most 2^top
 pub record Powers (d top : ℕ) : Type 0 where
   pub halves : 2 ^ d ≡ 2 * 2 ^ (d - 1)
@@ -68,3 +73,12 @@ powers d top h u =
       some = pow-pos (d - 8);
       most = pow-mono {j = top} u;
     }
+
+-- what a check of three depths tells
+pub told-outside : (b : Bool) (x : Depths) → cond b (checked.Depths x) checked.Outside ≡ checked.Outside → b ≡ false
+told-outside b x e = chose-second b _ _ _ e (λ f. let z : _≡_ {A = ℕ} 0 1 = cc in omega arith) .0
+
+pub told-depths : (b : Bool) (x d : Depths) → cond b (checked.Depths x) checked.Outside ≡ checked.Depths d → (b ≡ true) × (x ≡ d)
+told-depths b x d e =
+    let t = chose-first b _ _ _ e (λ f. let z : _≡_ {A = ℕ} 0 1 = cc in omega arith) in
+    (t .0, (let q = t .1 in cc))

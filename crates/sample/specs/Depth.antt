@@ -7,6 +7,7 @@ use Rattle.sample.specs.declared.RgbDepth.{RgbDepth}
 use Rattle.sample.specs.declared.LumaDepth.{LumaDepth}
 use Rattle.sample.specs.declared.ChromaDepth.{ChromaDepth}
 use Rattle.sample.specs.declared.Depths.{Depths}
+use Rattle.sample.specs.declared.Pixel.{Pixel}
 use Rattle.sample.specs.declared.RgbChecked.{RgbChecked}
 use Rattle.sample.specs.declared.RgbChecked.the-variants as rgb
 use Rattle.sample.specs.declared.LumaChecked.{LumaChecked}
@@ -73,3 +74,15 @@ pub record Power (bits r : ℕ) : Type 0 where
   pub is : r ≡ 2 ^ bits
   pub some : 0 < r
   pub fits : r ≤ 65536
+
+-- a pixel whose samples lie within the depths of their planes
+pub record Inside (d0 d1 d2 : ℕ) (p : Pixel) : Type 0 where
+  pub in0 : p .p0 < 2 ^ d0
+  pub in1 : p .p1 < 2 ^ d1
+  pub in2 : p .p2 < 2 ^ d2
+
+abbrev pub InsideRGB : Depths → Pixel → Type 0
+InsideRGB d p = Inside (d .rgb .0) (d .rgb .0) (d .rgb .0) p
+
+abbrev pub InsideYCC : Depths → Pixel → Type 0
+InsideYCC d p = Inside (d .luma .0) (d .chroma .0) (d .chroma .0) p

@@ -1,3 +1,4 @@
 -- Laws of the whole numbers that belong to no one function.
 pub mod Difference
 pub mod Closers
+pub mod Edges

@@ -1,0 +1,2 @@
+-- Laws of refusal tables.
+pub mod TableLaws

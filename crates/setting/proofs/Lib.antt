@@ -1,0 +1,4 @@
+-- Laws of settings.
+pub mod LabelLaws
+pub mod Ranges
+pub mod RefusalLaws

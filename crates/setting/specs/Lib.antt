@@ -1,0 +1,5 @@
+-- Settings, in the order in which the rules speak of them.
+pub mod Matrix
+pub mod Label
+pub mod Agreement
+pub mod Refusals

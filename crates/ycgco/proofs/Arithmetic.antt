@@ -1,0 +1,60 @@
+-- Each sample as the code computes it is the whole number of the formula. H stands for the middle of the chroma plane.
+use mathlib.Core.Path.{_≡_, refl, sym, ap, _∙_}
+use Prim.Native.Nat.{ℕ, _+_, _-_, _*_, _/_, _≤_, _<_}
+use native.Mathlib.Omega.{arith}
+use lib.IntN.{ℤ, pos, _+ℤ_, _-ℤ_, _*ℤ_}
+use Rattle.whole.specs.Whole.{half, round, clip, sample}
+use Rattle.whole.proofs.Difference.{parts}
+use Rattle.whole.proofs.Closers.{same, is-sample, round-up, clip-within}
+
+-- lossless forward
+module _ (H r g b : ℕ) where
+  pub lossless-cr : b ≤ r + H → r + H - b ≡ sample (pos r -ℤ pos b +ℤ pos H)
+  lossless-cr l = is-sample _ (search parts depth 20) (omega arith)
+
+  abbrev pub T : ℤ
+  T = pos b +ℤ half (pos r -ℤ pos b +ℤ pos H -ℤ pos H)
+
+  pub lossless-cb : (r + b) / 2 ≤ g + H → g + H - (r + b) / 2 ≡ sample (pos g -ℤ T +ℤ pos H)
+  lossless-cb l = is-sample _ (search parts depth 20) (omega arith)
+
+  pub lossless-y : (g + (r + b) / 2) / 2 ≡ sample (T +ℤ half (pos g -ℤ T +ℤ pos H -ℤ pos H))
+  lossless-y = is-sample _ (search parts depth 20) (omega arith)
+
+-- lossless reverse
+module _ (H y cb cr : ℕ) where
+  pub lossless-g : pos (y + cb) -ℤ pos ((cb + H) / 2) ≡ pos y -ℤ half (pos cb -ℤ pos H) +ℤ (pos cb -ℤ pos H)
+  lossless-g = same (search parts depth 20) (search parts depth 20) (omega arith)
+
+  pub lossless-b : pos (y + 2 * H) -ℤ pos ((cb + H) / 2 + (cr + H) / 2) ≡ pos y -ℤ half (pos cb -ℤ pos H) -ℤ half (pos cr -ℤ pos H)
+  lossless-b = same (search parts depth 20) (search parts depth 20) (omega arith)
+
+  pub lossless-r : (b : ℕ) → pos (b + cr) -ℤ pos H ≡ pos b +ℤ (pos cr -ℤ pos H)
+  lossless-r b = same (search parts depth 20) (search parts depth 20) (omega arith)
+
+  -- lossy reverse
+  pub lossy-r : pos (y + cr) -ℤ pos cb ≡ pos y -ℤ (pos cb -ℤ pos H) +ℤ (pos cr -ℤ pos H)
+  lossy-r = same (search parts depth 20) (search parts depth 20) (omega arith)
+
+  pub lossy-g : pos (y + cb) -ℤ pos H ≡ pos y +ℤ (pos cb -ℤ pos H)
+  lossy-g = same (search parts depth 20) (search parts depth 20) (omega arith)
+
+  pub lossy-b : pos (y + 2 * H) -ℤ pos (cb + cr) ≡ pos y -ℤ (pos cb -ℤ pos H) -ℤ (pos cr -ℤ pos H)
+  lossy-b = same (search parts depth 20) (search parts depth 20) (omega arith)
+
+-- lossy forward
+module _ (r g b : ℕ) where
+  abbrev pub Sum : ℤ
+  Sum = pos 2 *ℤ pos g +ℤ pos r +ℤ pos b
+
+  pub sum-round : round Sum 4 ≡ pos ((2 * (2 * g + r + b) + 4) / 8)
+  sum-round = round-up (2 * g + r + b) 4 (search parts) (omega arith)
+
+  pub lossy-y : r < 65536 → g < 65536 → b < 65536 → clip 65535 (round (pos (2 * g + r + b) -ℤ pos 0) 4 +ℤ pos 0) ≡ sample (round Sum 4)
+  unfolding sample
+  lossy-y hr hg hb =
+      let e : pos (2 * g + r + b) -ℤ pos 0 ≡ Sum = same (search parts) (search parts) (omega arith) in
+      rw (e, sum-round) (clip-within 65535 ((2 * (2 * g + r + b) + 4) / 8) (search parts) (omega arith) (omega arith))
+
+  pub lossy-cb : pos (2 * g) -ℤ pos (r + b) ≡ pos 2 *ℤ pos g -ℤ pos r -ℤ pos b
+  lossy-cb = same (search parts) (search parts) (omega arith)

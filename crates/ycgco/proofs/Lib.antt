@@ -1,0 +1,4 @@
+-- The arithmetic of YCgCo, and what follows for whole pixels.
+pub mod Arithmetic
+pub mod Lossless
+pub mod Insides

@@ -1,0 +1,2 @@
+-- YCgCo, lossy and lossless.
+pub mod YCgCo

@@ -1,0 +1,83 @@
+// YCgCo, one pixel at a time. Nothing is negative on the way: the middle of the chroma plane is added before anything is taken away.
+ghost use mathlib.Core.Path.{_≡_};
+ghost use Rattle.sample.specs.Depth.{InsideRGB};
+ghost use Rattle.ycgco.specs.YCgCo.{lossyForward, lossyReverse, losslessForward, losslessReverse, Plain, Roomy};
+use sample::Depths;
+use sample::Pixel;
+
+// 48 to 50
+pub fn lossy_forward(d: Depths, p: Pixel) -> Pixel
+    requires { ⌜ Plain d ⌝ }
+    ensures { λ r. ⌜ r ≡ lossyForward d p ⌝ }
+{
+    let c = d.chroma.0;
+    let h = sample::power(c - 1) as u64;
+    let top = sample::power(c) as u64 - 1;
+    let r = p.p0 as u64;
+    let g = p.p1 as u64;
+    let b = p.p2 as u64;
+    let p0 = whole::round_clip(2 * g + r + b, 0, 4, 0, 65535);
+    let p1 = whole::round_clip(2 * g, r + b, 4, h, top);
+    let p2 = whole::round_clip(r, b, 2, h, top);
+    Pixel { p0, p1, p2 }
+}
+
+// 51 to 54
+pub fn lossy_reverse(d: Depths, p: Pixel) -> Pixel
+    requires { ⌜ Plain d ⌝ }
+    ensures { λ r. ⌜ r ≡ lossyReverse d p ⌝ }
+{
+    let c = d.chroma.0;
+    let n = d.rgb.0;
+    let h = sample::power(c - 1);
+    let top = sample::power(n) - 1;
+    let y = p.p0 as u32;
+    let cb = p.p1 as u32;
+    let cr = p.p2 as u32;
+    let p0 = whole::clip_difference(y + cr, cb, top);
+    let p1 = whole::clip_difference(y + cb, h, top);
+    let p2 = whole::clip_difference(y + 2 * h, cb + cr, top);
+    Pixel { p0, p1, p2 }
+}
+
+// 55 to 58
+pub fn lossless_forward(d: Depths, p: Pixel) -> Pixel
+    requires { ⌜ Roomy d ⌝ }
+    requires { ⌜ InsideRGB d p ⌝ }
+    ensures { λ r. ⌜ r ≡ losslessForward d p ⌝ }
+{
+    let c = d.chroma.0;
+    let h = sample::power(c - 1);
+    let r = p.p0 as u32;
+    let g = p.p1 as u32;
+    let b = p.p2 as u32;
+    let cr = r + h - b;
+    let t = (r + b) / 2;
+    let cb = g + h - t;
+    let y = (g + t) / 2;
+    Pixel {
+        p0: y as u16,
+        p1: cb as u16,
+        p2: cr as u16,
+    }
+}
+
+// 59 to 62
+pub fn lossless_reverse(d: Depths, p: Pixel) -> Pixel
+    requires { ⌜ Roomy d ⌝ }
+    ensures { λ r. ⌜ r ≡ losslessReverse d p ⌝ }
+{
+    let c = d.chroma.0;
+    let n = d.rgb.0;
+    let h = sample::power(c - 1);
+    let top = sample::power(n) - 1;
+    let y = p.p0 as u32;
+    let cb = p.p1 as u32;
+    let cr = p.p2 as u32;
+    let half_cb = (cb + h) / 2;
+    let half_cr = (cr + h) / 2;
+    let p1 = whole::clip_difference(y + cb, half_cb, top);
+    let p2 = whole::clip_difference(y + 2 * h, half_cb + half_cr, top);
+    let p0 = whole::clip_difference(p2 as u32 + cr, h, top);
+    Pixel { p0, p1, p2 }
+}
