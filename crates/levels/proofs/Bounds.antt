@@ -1,0 +1,195 @@
+-- The lines of every served setting have room in 64 bits. The green row of the reverse is the largest: its weights are at most
+-- 5/4 of the square of the whole, whatever KR and KB are.
+use mathlib.Core.Path.{_≡_, ap}
+use mathlib.Core.Bool.{Bool, true, false}
+use Prim.Native.Nat.{ℕ, zero, suc, _+_, _*_, _-_, _^_, _≤_, _<_}
+use native.Mathlib.Nat.{mul-pos, mul-le-mul, mul-le-mul-left, le-refl}
+use native.Mathlib.Omega.{arith}
+use Rattle.sample.specs.Depth.{leastDepth, mostLumaMatrixDepth}
+use Rattle.sample.specs.declared.ChromaDepth.{ChromaDepth}
+use Rattle.sample.specs.declared.Pixel.{Pixel}
+use Rattle.sample.proofs.DepthLaws.{powers}
+use Rattle.levels.specs.Paper.{allParts, weights, M, lightScale, chromaScale}
+use Rattle.levels.specs.Luma.{Shares, LumaMatrixDepth, SamplesServed, mostSample}
+use Rattle.levels.specs.Rows.{total, rowY, rowPB, rowPR, rowR, rowG, rowB}
+use Rattle.levels.specs.Lines.{targetOf, sourcesOfRgb, sourcesOfYcc, spread, lineOf, ScaleServed, SpreadServed, LineServed, Room}
+use Rattle.levels.specs.declared.Line.{Line}
+use Rattle.levels.specs.declared.Scale.{Scale}
+use Rattle.levels.specs.declared.Weights.{Weights}
+use Rattle.levels.specs.declared.rows.Row.{Row}
+use Rattle.levels.specs.declared.prepared.Sources.{Sources}
+use Rattle.levels.specs.declared.prepared.Target.{Target}
+
+-- Weights given by KR and KB are served.
+pub weights-served : (kr kb : ℕ) → kr + kb < allParts → Shares (weights kr kb)
+weights-served kr kb h = omega arith
+
+-- a sample below 2^d is served
+pub sample-served : (d v : ℕ) → d ≤ mostLumaMatrixDepth → leastDepth ≤ d → v < 2 ^ d → v ≤ mostSample
+sample-served d v u h l = let p = powers d mostLumaMatrixDepth h u in omega arith
+
+-- Scales and targets of the depths served.
+pub record TargetServed (most : ℕ) (t : Target) : Type 0 where
+  pub times-in : t .times ≤ mostSample
+  pub plus-in : t .plus ≤ most
+  pub mid-in : t .mid ≤ t .top
+  pub top-in : t .top ≤ mostSample
+
+module _ (d : ℕ) (h : LumaMatrixDepth d) where
+  pub light-served : (f : Bool) → ScaleServed (lightScale f d)
+  light-served true = let p = powers d mostLumaMatrixDepth (h .least) (h .most) in omega arith
+  light-served false = let p = powers d mostLumaMatrixDepth (h .least) (h .most) in omega arith
+
+  pub light-target-served : (f : Bool) → TargetServed 256 (targetOf f (lightScale f d) (M d))
+  light-target-served true = let p = powers d mostLumaMatrixDepth (h .least) (h .most) in omega arith
+  light-target-served false = let p = powers d mostLumaMatrixDepth (h .least) (h .most) in omega arith
+
+module _ (d : ChromaDepth) (h : LumaMatrixDepth (d .0)) where
+  pub colour-served : (f : Bool) → ScaleServed (chromaScale f d)
+  colour-served true = let p = powers (d .0) mostLumaMatrixDepth (h .least) (h .most) in omega arith
+  colour-served false = let p = powers (d .0) mostLumaMatrixDepth (h .least) (h .most) in omega arith
+
+  pub colour-target-served : (f : Bool) → TargetServed 2048 (targetOf f (chromaScale f d) (M (d .0)))
+  colour-target-served true = let p = powers (d .0) mostLumaMatrixDepth (h .least) (h .most) in omega arith
+  colour-target-served false = let p = powers (d .0) mostLumaMatrixDepth (h .least) (h .most) in omega arith
+
+pub wider : {t : Target} → TargetServed 256 t → TargetServed 2048 t
+wider h = omega arith
+
+-- The six rows.
+pub record RowServed (w : Row) : Type 0 where
+  pub some : 0 < w .over
+  pub over-in : w .over ≤ 100000000
+  pub total-in : total w ≤ 125000000
+
+twice-product : (a b : ℕ) → 2 * (a * b) ≤ a * a + b * b
+twice-product zero b = omega arith
+twice-product (suc a) zero = omega arith
+twice-product (suc a) (suc b) = let h = twice-product a b in omega arith
+
+-- 5 n² - 4 (..) is (g - (r + b))² + 4 (r - b)²
+green-bound : (n r g b : ℕ) → r + g + b ≡ n → 4 * (n * g + 2 * b * (r + g) + 2 * r * (g + b)) ≤ 5 * (n * n)
+green-bound n r g b e = let p = twice-product g (r + b) in let q = twice-product r b in rw (← e) (omega arith)
+
+module _ (k : Weights) (h : Shares k) where
+  pub y-served : RowServed (rowY k)
+  y-served = omega arith
+
+  pub pb-served : RowServed (rowPB k)
+  pb-served = omega arith
+
+  pub pr-served : RowServed (rowPR k)
+  pr-served = omega arith
+
+  pub r-served : RowServed (rowR k)
+  r-served = omega arith
+
+  pub b-served : RowServed (rowB k)
+  b-served = omega arith
+
+  pub g-served : RowServed (rowG k)
+  g-served =
+      let e = ap (λ n. n * k .kg) (h .all-is) in
+      let f = ap (λ n. n * n) (h .all-is) in
+      let b = green-bound (k .all) (k .kr) (k .kg) (k .kb) (h .sum) in
+      record { some = omega arith; over-in = omega arith; total-in = omega arith }
+
+-- A line of them.
+module _ (w : Row) (r : RowServed w) (to : Target) where
+  pub forward-served : (s : Scale) → ScaleServed s → TargetServed 2048 to → LineServed w (sourcesOfRgb s) to
+  forward-served s h t =
+      let p = mul-le-mul (r .over-in) (h .times-in) in
+      let q = mul-le-mul (t .plus-in) p in
+      record {
+        spreads = omega arith;
+        first-plus = h .plus-in;
+        rest-plus = h .plus-in;
+        mid-in = t .mid-in;
+        top-in = t .top-in;
+        over-some = mul-pos (r .some) (h .some);
+        added-in = omega arith;
+      }
+
+  pub reverse-served : (y c : Scale) → ScaleServed y → ScaleServed c → TargetServed 256 to → LineServed w (sourcesOfYcc y c) to
+  reverse-served y c h g t =
+      let p = mul-le-mul (r .over-in) (mul-le-mul (g .times-in) (h .times-in)) in
+      let q = mul-le-mul (t .plus-in) p in
+      record {
+        spreads = omega arith;
+        first-plus = h .plus-in;
+        rest-plus = g .plus-in;
+        mid-in = t .mid-in;
+        top-in = t .top-in;
+        over-some = mul-pos (r .some) (mul-pos (g .some) (h .some));
+        added-in = omega arith;
+      }
+
+-- A weight u, read and written.
+pub record Carried (t m u : ℕ) : Type 0 where
+  pub read : m * u ≤ mostSample * u
+  pub written : t * (m * u) ≤ mostSample * mostSample * u
+
+carried : (t m u : ℕ) → t ≤ mostSample → m ≤ mostSample → Carried t m u
+carried t m u ht hm =
+    let a = mul-le-mul hm (le-refl u) in
+    record { read = a; written = omega (arith, mul-le-mul ht a) }
+
+pub record Spread (w : Row) (from : Sources) (t : ℕ) : Type 0 where
+  pub up0 : Carried t (from .first .mul) (w .up0)
+  pub up1 : Carried t (from .rest .mul) (w .up1)
+  pub up2 : Carried t (from .rest .mul) (w .up2)
+  pub down0 : Carried t (from .first .mul) (w .down0)
+  pub down1 : Carried t (from .rest .mul) (w .down1)
+  pub down2 : Carried t (from .rest .mul) (w .down2)
+
+pub spread-bounds : {w : Row} {from : Sources} {t : ℕ} → SpreadServed w from t → Spread w from t
+spread-bounds h =
+    record {
+      up0 = carried _ _ _ (h .times-in) (h .first-in);
+      up1 = carried _ _ _ (h .times-in) (h .rest-in);
+      up2 = carried _ _ _ (h .times-in) (h .rest-in);
+      down0 = carried _ _ _ (h .times-in) (h .first-in);
+      down1 = carried _ _ _ (h .times-in) (h .rest-in);
+      down2 = carried _ _ _ (h .times-in) (h .rest-in);
+    }
+
+-- A row's weights, each times a number of its own that is no sample above the largest.
+pub record Terms (w : Row) (x y z : ℕ) : Type 0 where
+  pub up0 : w .up0 * x ≤ w .up0 * mostSample
+  pub up1 : w .up1 * y ≤ w .up1 * mostSample
+  pub up2 : w .up2 * z ≤ w .up2 * mostSample
+  pub down0 : w .down0 * x ≤ w .down0 * mostSample
+  pub down1 : w .down1 * y ≤ w .down1 * mostSample
+  pub down2 : w .down2 * z ≤ w .down2 * mostSample
+
+pub terms : (w : Row) {x y z : ℕ} → x ≤ mostSample → y ≤ mostSample → z ≤ mostSample → Terms w x y z
+terms w hx hy hz =
+    record {
+      up0 = mul-le-mul-left _ hx;
+      up1 = mul-le-mul-left _ hy;
+      up2 = mul-le-mul-left _ hz;
+      down0 = mul-le-mul-left _ hx;
+      down1 = mul-le-mul-left _ hy;
+      down2 = mul-le-mul-left _ hz;
+    }
+
+-- What a line is made of, and that it has room.
+pub record LineBounds (w : Row) (from : Sources) (to : Target) : Type 0 where
+  pub served : LineServed w from to
+  pub weights : Spread w from (to .times)
+  pub taken : Terms (spread w from (to .times)) (from .first .plus) (from .rest .plus) (from .rest .plus)
+
+pub line-bounds : {w : Row} {from : Sources} {to : Target} → LineServed w from to → LineBounds w from to
+line-bounds h = record { served = h; weights = spread-bounds (h .spreads); taken = terms _ (h .first-plus) (h .rest-plus) (h .rest-plus) }
+
+pub room : {w : Row} {from : Sources} {to : Target} → LineServed w from to → Room (lineOf w from to)
+room h =
+    let b = line-bounds h in
+    record {
+      up-fits = omega arith;
+      down-fits = omega arith;
+      over-fits = h .spreads .over-in;
+      over-some = h .over-some;
+      mid-in = h .mid-in;
+      top-in = h .top-in;
+    }

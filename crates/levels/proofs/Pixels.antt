@@ -1,0 +1,64 @@
+-- The lines of a setting give the pixel that the printed formulas give: each of the six formulas has the value of its row, and
+-- the row's line writes it.
+use mathlib.Core.Path.{_≡_}
+use Prim.Native.Nat.{ℕ, _*_, _<_}
+use native.Mathlib.Nat.{mul-pos}
+use Rattle.fraction.proofs.Value.{Value}
+use Rattle.sample.specs.declared.Pixel.{Pixel}
+use Rattle.levels.specs.Luma.{LumaServed, rgbLevel, lumaLevel, chromaLevel, lumaForward, lumaReverse}
+use Rattle.levels.specs.Rows.{rowY, rowPB, rowPR, rowR, rowG, rowB}
+use Rattle.levels.specs.Lines.{source, read, sourcesOfRgb, sourcesOfYcc, pixelOf, forwardLines, reverseLines}
+use Rattle.levels.specs.declared.LumaSetting.{LumaSetting}
+use Rattle.levels.specs.declared.Weights.{Weights}
+use Rattle.levels.proofs.Formulas.{y-value, pb-value, pr-value, r-value, g-value, b-value}
+use Rattle.levels.proofs.Writing.{rgb-value, luma-value, chroma-value, light-sample, chroma-sample}
+use Rattle.levels.proofs.Bounds.{y-served, pb-served, pr-served, r-served, g-served, b-served}
+use Rattle.levels.proofs.Served.{rgb, luma, chroma, rgb-served, luma-served, chroma-served}
+
+module _ (s : LumaSetting) (h : LumaServed s) (p : Pixel) where
+  abbrev k : Weights
+  k = s .weights
+
+  -- what the samples of p stand for, on either side
+  of-rgb : (v : ℕ) → Value (rgbLevel s v) (read (source 1 (rgb s .plus)) v) (rgb s .times)
+  of-rgb v = rgb-value (rgb s) v (rgb-served s h .some)
+
+  of-luma : (v : ℕ) → Value (lumaLevel s v) (read (source (chroma s .times) (luma s .plus)) v) (chroma s .times * luma s .times)
+  of-luma v = luma-value (luma s) (chroma s) v (luma-served s h .some)
+
+  of-chroma : (v : ℕ) → Value (chromaLevel s v) (read (source (luma s .times) (chroma s .plus)) v) (chroma s .times * luma s .times)
+  of-chroma v = chroma-value (luma s) (chroma s) v (chroma-served s h .some)
+
+  pub forward-law : pixelOf (forwardLines s) p ≡ lumaForward s p
+  unfolding forwardLines lumaForward
+  forward-law =
+      let r = of-rgb (p .p0) in
+      let g = of-rgb (p .p1) in
+      let b = of-rgb (p .p2) in
+      let y = light-sample (rowY k) (sourcesOfRgb (rgb s)) p (y-value k (h .shares) r g b) (mul-pos (y-served k (h .shares) .some) (rgb-served s h .some)) in
+      let cb = chroma-sample (rowPB k) (sourcesOfRgb (rgb s)) p (pb-value k (h .shares) r g b) (mul-pos (pb-served k (h .shares) .some) (rgb-served s h .some)) in
+      let cr = chroma-sample (rowPR k) (sourcesOfRgb (rgb s)) p (pr-value k (h .shares) r g b) (mul-pos (pr-served k (h .shares) .some) (rgb-served s h .some)) in
+      λ i.
+      record {
+        p0 = y (s .«ycc_full») (s .depths .luma .0) i;
+        p1 = cb (s .«ycc_full») (s .depths .chroma) i;
+        p2 = cr (s .«ycc_full») (s .depths .chroma) i;
+      }
+
+  pub reverse-law : pixelOf (reverseLines s) p ≡ lumaReverse s p
+  unfolding reverseLines lumaReverse
+  reverse-law =
+      let y = of-luma (p .p0) in
+      let cb = of-chroma (p .p1) in
+      let cr = of-chroma (p .p2) in
+      let from = sourcesOfYcc (luma s) (chroma s) in
+      let some = mul-pos (chroma-served s h .some) (luma-served s h .some) in
+      let r = light-sample (rowR k) from p (r-value k (h .shares) y cb cr) (mul-pos (r-served k (h .shares) .some) some) in
+      let g = light-sample (rowG k) from p (g-value k (h .shares) y cb cr) (mul-pos (g-served k (h .shares) .some) some) in
+      let b = light-sample (rowB k) from p (b-value k (h .shares) y cb cr) (mul-pos (b-served k (h .shares) .some) some) in
+      λ i.
+      record {
+        p0 = r (s .«rgb_full») (s .depths .rgb .0) i;
+        p1 = g (s .«rgb_full») (s .depths .rgb .0) i;
+        p2 = b (s .«rgb_full») (s .depths .rgb .0) i;
+      }

@@ -1,0 +1,79 @@
+-- `levels::prepared::sample_of` meets its contract: what it adds and what it takes away are the two parts of the line at the pixel.
+use mathlib.Core.Path.{_∙_, ap}
+use Prim.Native.Nat.{_+_, _*_}
+use native.Mathlib.Omega.{arith}
+use lib.IntN.{pos, _+ℤ_}
+use borrow.Author.Needs.{needs}
+use Rattle.whole.specs.Whole.{round, clip}
+use Rattle.whole.proofs.Difference.{parts, parts-sub}
+use Rattle.whole.proofs.Closers.{same}
+use Rattle.levels.specs.Lines.{lineAt}
+use Rattle.levels.proofs.Bounds.{Terms, terms}
+use Rattle.levels.proofs.prepared.sample_of.Statement.{statement}
+use Rattle.levels.proofs.prepared.sample_of.Tie as tie
+
+known : (s : tie.Start) → Terms (s .args .l .row) (s .args .p .p0) (s .args .p .p1) (s .args .p .p2)
+known s = terms (s .args .l .row) (s .pre .1 .p0-in) (s .pre .1 .p1-in) (s .pre .1 .p2-in)
+
+cast-x : tie.Need-cast-x
+cast-x c = search needs
+
+cast-y : tie.Need-cast-y
+cast-y c = search needs
+
+cast-z : tie.Need-cast-z
+cast-z c = search needs
+
+mul-plus : tie.Need-mul-plus
+mul-plus c = let k = known (c .before .before .before .before) in omega arith
+
+mul-plus-2 : tie.Need-mul-plus-2
+mul-plus-2 c = let k = known (c .before .before .before .before) in omega arith
+
+add-plus : tie.Need-add-plus
+add-plus c = let k = known (c .before .before .before .before) in omega arith
+
+mul-plus-3 : tie.Need-mul-plus-3
+mul-plus-3 c = let k = known (c .before .before .before .before) in omega arith
+
+add-plus-2 : tie.Need-add-plus-2
+add-plus-2 c = let k = known (c .before .before .before .before) in omega arith
+
+add-plus-3 : tie.Need-add-plus-3
+add-plus-3 c = let k = known (c .before .before .before .before) in omega arith
+
+mul-minus : tie.Need-mul-minus
+mul-minus c = let k = known (c .before .before .before .before) in omega arith
+
+mul-minus-2 : tie.Need-mul-minus-2
+mul-minus-2 c = let k = known (c .before .before .before .before) in omega arith
+
+add-minus : tie.Need-add-minus
+add-minus c = let k = known (c .before .before .before .before) in omega arith
+
+mul-minus-3 : tie.Need-mul-minus-3
+mul-minus-3 c = let k = known (c .before .before .before .before) in omega arith
+
+add-minus-2 : tie.Need-add-minus-2
+add-minus-2 c = let k = known (c .before .before .before .before) in omega arith
+
+add-minus-3 : tie.Need-add-minus-3
+add-minus-3 c = let k = known (c .before .before .before .before) in omega arith
+
+round-clip-requires : tie.Need-round-clip-requires
+round-clip-requires c κs = let k = known (c .before .before .before .before) in omega arith
+
+returns : tie.Need-returns
+returns c =
+    let a = c .before .before .before .before .before .args in
+    let w = a .l .row in
+    let p = a .p in
+    c .round-clip .ensures
+    ∙ ap (λ n. clip (a .l .top) (round n (w .over) +ℤ pos (a .l .mid)))
+    (same {y = lineAt (a .l) p}
+    (parts-sub (w .up0 * p .p0 + w .up1 * p .p1 + w .up2 * p .p2 + a .l .up) (w .down0 * p .p0 + w .down1 * p .p1 + w .down2 * p .p2 + a .l .down))
+    (search parts depth 20)
+    (omega arith))
+
+pub sample-of-spec : {M : Type 1} → statement M
+sample-of-spec = tie.close (tie.spec cast-x cast-y cast-z mul-plus mul-plus-2 add-plus mul-plus-3 add-plus-2 add-plus-3 mul-minus mul-minus-2 add-minus mul-minus-3 add-minus-2 add-minus-3 round-clip-requires returns)

@@ -1,0 +1,19 @@
+-- `levels::reverse` meets its contract: the lines of the setting give the pixel of the printed formulas.
+use mathlib.Core.Path.{_∙_, ap}
+use Rattle.levels.specs.Lines.{pixelOf}
+use Rattle.levels.proofs.Pixels.{reverse-law}
+use Rattle.levels.proofs.Served.{reverse-rooms}
+use Rattle.levels.proofs.reverse.Statement.{statement}
+use Rattle.levels.proofs.reverse.Tie as tie
+
+pixel-of-requires : tie.Need-pixel-of-requires
+pixel-of-requires c κs = let p = c .pre in (rw (p .1 .0) (reverse-rooms (c .args .s) (p .0)), p .1 .1)
+
+returns : tie.Need-returns
+returns c =
+    let a = c .before .args in
+    let p = c .before .pre in
+    c .pixel-of .ensures ∙ ap (λ l. pixelOf l (a .p)) (p .1 .0) ∙ reverse-law (a .s) (p .0) (a .p)
+
+pub reverse-spec : {M : Type 1} → statement M
+reverse-spec = tie.close (tie.spec pixel-of-requires returns)
