@@ -1,0 +1,4 @@
+-- Laws of sizes, of planes and of searches.
+pub mod SizeLaws
+pub mod Tables
+pub mod Searches
