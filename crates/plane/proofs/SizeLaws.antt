@@ -1,24 +1,15 @@
 -- Laws of sizes: the tests of refusals 8 and 9 and the facts that they test.
 use mathlib.Core.Path.{_≡_, refl}
-use mathlib.Core.Bool.{Bool, true, false, _||_}
+use mathlib.Core.Bool.{Bool, true, false}
 use mathlib.Core.List.{List, [], _∷_}
 use Prim.Native.Nat.{ℕ, _+_, _*_, _-_, _≤_, _<_}
 use native.Mathlib.Nat.{mul-le-mul, mul-le-mul-right}
 use native.Mathlib.Omega.{arith}
 use borrow.Author.Tests.{ltb-false, le-ltb}
 use lib.Dec.{ltb}
+use Rattle.sample.proofs.Picks.{must, neither}
 use Rattle.plane.specs.declared.size.Side.{Side}
 use Rattle.plane.specs.Sizes.{mostSize, mostStride, outside, pictureOutside, needed, sideShort, RowStart, Within, Sized, Long}
-
--- two tests that both fail
-pub neither : (a b : Bool) → a || b ≡ false → (a ≡ false) × (b ≡ false)
-neither true b e = (e, cc)
-neither false b e = (refl, e)
-
--- a test that cannot fail
-pub must : (b : Bool) → (b ≡ false → ⊥) → b ≡ true
-must true h = refl
-must false h = absurd (h refl)
 
 -- the start of a row of a served size
 pub row-start : (j stride height : ℕ) → j < height → height ≤ mostSize → stride ≤ mostStride → RowStart j stride height (j * stride)

@@ -2,6 +2,7 @@
 use mathlib.Core.Path.{_≡_}
 use mathlib.Core.Bool.{Bool, true, false, cond}
 use mathlib.Core.List.{List, []}
+use mathlib.Core.Logic.{_⊎_}
 use Prim.Native.Nat.{ℕ, zero, suc, _≤_, _<_}
 use lib.Dec.{ltb}
 use lib.ListN.{length, getD}
@@ -41,3 +42,25 @@ badSample planes stride width height tops =
 -- no element of s is above m
 abbrev pub NoneAbove : List ℕ → ℕ → Type 0
 NoneAbove s m = (k : ℕ) → k < length s → getD s k 0 ≤ m
+
+-- every sample inside the picture is within its depth
+abbrev pub AllFine : List ℕ → ℕ → ℕ → ℕ → ℕ → Type 0
+AllFine p stride width height top = (j i : ℕ) → j < height → i < width → sampleAt p stride j i ≤ top
+
+-- row j and column i come before another row and column
+abbrev pub Before : ℕ → ℕ → ℕ → ℕ → Type 0
+Before j i row column = (j < row) ⊎ ((j ≡ row) × (i < column))
+
+-- what it is to be the first bad sample of a plane
+pub record IsFirstBad (p : List ℕ) (plane stride width height top : ℕ) (place : Place) : Type 0 where
+  pub plane-is : place .plane ≡ plane
+  pub row-inside : place .row < height
+  pub column-inside : place .column < width
+  pub beyond : top < sampleAt p stride (place .row) (place .column)
+  pub none-before : (j i : ℕ) → j < height → i < width → Before j i (place .row) (place .column) → sampleAt p stride j i ≤ top
+
+-- and that of some planes
+pub record IsBadSample (planes : List (List ℕ)) (stride width height : ℕ) (tops : List ℕ) (place : Place) : Type 0 where
+  pub plane-inside : place .plane < length planes
+  pub first-there : IsFirstBad (getD planes (place .plane) []) (place .plane) stride width height (getD tops (place .plane) 0) place
+  pub fine-below : (k : ℕ) → k < place .plane → AllFine (getD planes k []) stride width height (getD tops k 0)

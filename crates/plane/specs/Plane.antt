@@ -1,7 +1,8 @@
 -- What a plane holds. Element j · stride + i is the sample of row j and column i.
+use mathlib.Core.Path.{_≡_}
 use mathlib.Core.Bool.{Bool, true, false, _&&_, cond}
 use mathlib.Core.List.{List, [], _∷_, _++_}
-use Prim.Native.Nat.{ℕ, zero, suc, _+_, _*_, _-_, _/_, _%_}
+use Prim.Native.Nat.{ℕ, zero, suc, _+_, _*_, _-_, _/_, _%_, _<_}
 use lib.Dec.{ltb}
 use lib.ListN.{getD, take, drop}
 use Rattle.sample.specs.declared.Pixel.{Pixel}
@@ -40,3 +41,8 @@ patched y a e ys = take a y ++ (ys ++ drop (e - a) (drop a y))
 -- the same with zeros
 abbrev pub cleared : List ℕ → ℕ → ℕ → List ℕ
 cleared y a e = patched y a e (zeros (e - a))
+
+-- p and q agree inside the picture
+abbrev pub SamePicture : ℕ → ℕ → ℕ → List ℕ → List ℕ → Type 0
+SamePicture stride width height p q =
+    (j i : ℕ) → j < height → i < width → sampleAt p stride j i ≡ sampleAt q stride j i
