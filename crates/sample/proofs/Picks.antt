@@ -1,6 +1,6 @@
 -- Choices by a test: what is chosen tells how the test went.
 use mathlib.Core.Path.{_≡_, refl}
-use mathlib.Core.Bool.{Bool, true, false, _&&_, cond}
+use mathlib.Core.Bool.{Bool, true, false, _&&_, _||_, cond}
 use Prim.Native.Nat.{ℕ, _≤_}
 use borrow.Author.Tests.{leb-true}
 use lib.Dec.{leb}
@@ -26,3 +26,13 @@ both-true false b e = (e, cc)
 
 pub le-and : (m n : ℕ) (b : Bool) → leb m n && b ≡ true → (m ≤ n) × (b ≡ true)
 le-and m n b e = let t = both-true (leb m n) b e in (leb-true m n (t .0), t .1)
+
+-- a test that must hold
+pub must : (b : Bool) → (b ≡ false → ⊥) → b ≡ true
+must true h = refl
+must false h = absurd (h refl)
+
+-- two tests of which neither holds
+pub neither : (a b : Bool) → a || b ≡ false → (a ≡ false) × (b ≡ false)
+neither true b e = (e, cc)
+neither false b e = (refl, e)

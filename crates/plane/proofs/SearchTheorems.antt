@@ -1,0 +1,182 @@
+-- What the answer of a search means, and that it depends on the picture's samples alone.
+use mathlib.Core.Path.{_≡_, refl, sym, ap, _∙_, subst}
+use mathlib.Core.Bool.{Bool, true, false}
+use mathlib.Core.List.{List, [], _∷_}
+use mathlib.Core.Logic.{_↔_, _⊎_, ⊎-elim, inl, inr}
+use Prim.Native.Nat.{ℕ, zero, suc, _+_, _*_, _-_, _^_, _≤_, _<_}
+use native.Mathlib.Nat.{eq-or-lt-of-le, le-of-suc-le-suc, not-suc-le-zero}
+use native.Mathlib.Omega.{arith}
+use borrow.Author.Tests.{ltb-true, ltb-false}
+use lib.Dec.{ltb}
+use lib.ListN.{length, getD}
+use lib.Pow.{pow-pos}
+use Rattle.sample.proofs.Picks.{chose-first, chose-second}
+use Rattle.refusal.specs.Table.{at}
+use Rattle.refusal.specs.declared.Place.{Place}
+use Rattle.plane.specs.Plane.{sampleAt, SamePicture}
+use Rattle.plane.specs.First.{orElse, firstOf, badHere, badInRow, firstBad, badSample, AllFine, Before, IsFirstBad, IsBadSample}
+use Rattle.plane.specs.declared.search.Found.{Found}
+use Rattle.plane.specs.declared.search.Found.the-variants.{At, Nothing}
+use Rattle.plane.proofs.Searches.{here, none-of, first-same, bad, fine}
+
+-- a sample is above the largest of its depth exactly where it is 2^depth or more
+pub beyond-depth : (depth s : ℕ) → (2 ^ depth - 1 < s) ↔ (2 ^ depth ≤ s)
+beyond-depth depth s = (λ h. omega (arith, pow-pos depth), λ h. omega (arith, pow-pos depth))
+
+-- ---- any search
+
+something : (place : Place) → At place ≡ Nothing → ⊥
+something place e = let z : _≡_ {A = ℕ} 0 1 = cc in omega arith
+
+-- where a search found nothing, nothing is at any place searched
+none-step : (f : ℕ → Found) (n : ℕ) (x : Found) → (x ≡ Nothing → (i : ℕ) → i < n → f i ≡ Nothing)
+    → orElse x (f n) ≡ Nothing → (i : ℕ) → i < suc n → f i ≡ Nothing
+unfolding orElse
+none-step f n (At place) earlier e i h = absurd (something place e)
+none-step f n Nothing earlier e i h =
+    ⊎-elim (λ (w : i ≡ n). rw w e) (λ (w : i < n). earlier refl i w) (eq-or-lt-of-le (le-of-suc-le-suc h))
+
+pub none-at : (f : ℕ → Found) (n : ℕ) → firstOf n f ≡ Nothing → (i : ℕ) → i < n → f i ≡ Nothing
+unfolding firstOf
+none-at f zero e i h = absurd (not-suc-le-zero h)
+none-at f (suc n) e i h = none-step f n (firstOf n f) (none-at f n) e i h
+
+-- where it found a place, that stands at one index, and nothing before it
+pub record FoundIn (f : ℕ → Found) (n : ℕ) (place : Place) : Type 0 where
+  pub index : ℕ
+  pub inside : index < n
+  pub there : f index ≡ At place
+  pub none : (i : ℕ) → i < index → f i ≡ Nothing
+
+found-step : (f : ℕ → Found) (n : ℕ) (place : Place) (x : Found) → firstOf n f ≡ x → (firstOf n f ≡ At place → FoundIn f n place)
+    → orElse x (f n) ≡ At place → FoundIn f (suc n) place
+unfolding orElse
+found-step f n place (At q) x earlier e =
+    let r = earlier (x ∙ e) in
+    record { index = r .index; inside = omega (arith, r .inside); there = r .there; none = r .none }
+found-step f n place Nothing x earlier e = record { index = n; inside = omega arith; there = e; none = none-at f n x }
+
+pub found-in : (f : ℕ → Found) (n : ℕ) (place : Place) → firstOf n f ≡ At place → FoundIn f n place
+unfolding firstOf
+found-in f zero place e = absurd (something place (sym e))
+found-in f (suc n) place e = found-step f n place (firstOf n f) refl (found-in f n place) e
+
+-- ---- one plane
+
+module _ (p : List ℕ) (plane stride width height top : ℕ) where
+  here-fine : (j i : ℕ) → badHere p plane stride top j i ≡ Nothing → sampleAt p stride j i ≤ top
+  unfolding badHere
+  here-fine j i e = ltb-false top (sampleAt p stride j i) (chose-second (ltb top (sampleAt p stride j i)) _ _ _ e (something (at plane j i)) .0)
+
+  here-bad : (j i : ℕ) (place : Place) → badHere p plane stride top j i ≡ At place
+      → (top < sampleAt p stride j i) × (at plane j i ≡ place)
+  unfolding badHere
+  here-bad j i place e =
+      let t = chose-first (ltb top (sampleAt p stride j i)) _ _ _ e (λ q. something place (sym q)) in
+      (ltb-true top (sampleAt p stride j i) (t .0), (let q = t .1 in cc))
+
+  fine-row : (j : ℕ) → ((i : ℕ) → i < width → sampleAt p stride j i ≤ top) → badInRow p plane stride width top j ≡ Nothing
+  unfolding badInRow
+  fine-row j h = none-of _ width (λ i l. fine p plane stride top j (j * stride) refl i (h i l))
+
+  row-fine : (j : ℕ) → badInRow p plane stride width top j ≡ Nothing → (i : ℕ) → i < width → sampleAt p stride j i ≤ top
+  unfolding badInRow
+  row-fine j e i l = here-fine j i (none-at _ width e i l)
+
+  -- Nothing: every sample is within its depth
+  pub nothing-means : (firstBad p plane stride width height top ≡ Nothing) ↔ AllFine p stride width height top
+  unfolding firstBad
+  nothing-means =
+      (λ e j i a b. row-fine j (none-at _ height e j a) i b, λ h. none-of _ height (λ j a. fine-row j (λ i b. h j i a b)))
+
+  -- the place found is that of a sample beyond its depth, before which there is none
+  found-first : (place : Place) → firstBad p plane stride width height top ≡ At place → IsFirstBad p plane stride width height top place
+  unfolding firstBad badInRow
+  found-first place e =
+      let r = found-in _ height place e in
+      let c = found-in _ width place (r .there) in
+      let t = here-bad (r .index) (c .index) place (c .there) in
+      subst (IsFirstBad p plane stride width height top) (t .1)
+      (record {
+        plane-is = refl;
+        row-inside = r .inside;
+        column-inside = c .inside;
+        beyond = t .0;
+        none-before = λ j i a b o.
+            ⊎-elim
+            (λ (w : j < r .index). row-fine j (r .none j w) i b)
+            (λ w. rw (w .0) (here-fine (r .index) i (c .none i (w .1)))) o;
+      })
+
+  first-found : (place : Place) → IsFirstBad p plane stride width height top place → firstBad p plane stride width height top ≡ At place
+  unfolding firstBad badInRow
+  first-found place k =
+      let rows = none-of _ (place .row) (λ j a. fine-row j (λ i b. k .none-before j i (omega (arith, k .row-inside)) b (inl a))) in
+      let columns =
+      none-of _ (place .column)
+      (λ i b. fine p plane stride top (place .row) _ refl i (k .none-before (place .row) i (k .row-inside) (omega (arith, k .column-inside)) (inr (refl, b)))) in
+      here _ height (place .row) place (k .row-inside) rows
+      (here _ width (place .column) place (k .column-inside) columns
+      (bad p plane stride top (place .row) _ refl (place .column) (k .beyond) ∙ rw (← k .plane-is)))
+
+  pub at-means : (place : Place) → (firstBad p plane stride width height top ≡ At place) ↔ IsFirstBad p plane stride width height top place
+  at-means place = (found-first place, first-found place)
+
+-- ---- some planes
+
+module _ (planes : List (List ℕ)) (stride width height : ℕ) (tops : List ℕ) where
+  -- every sample of plane k is within its depth
+  abbrev pub FinePlane : ℕ → Type 0
+  FinePlane k = AllFine (getD planes k []) stride width height (getD tops k 0)
+
+  fine-plane : (k : ℕ) → firstBad (getD planes k []) k stride width height (getD tops k 0) ≡ Nothing → FinePlane k
+  fine-plane k = nothing-means (getD planes k []) k stride width height (getD tops k 0) .0
+
+  plane-fine : (k : ℕ) → FinePlane k → firstBad (getD planes k []) k stride width height (getD tops k 0) ≡ Nothing
+  plane-fine k = nothing-means (getD planes k []) k stride width height (getD tops k 0) .1
+
+  pub nothing-in-planes-means : (badSample planes stride width height tops ≡ Nothing) ↔ ((k : ℕ) → k < length planes → FinePlane k)
+  unfolding badSample
+  nothing-in-planes-means =
+      (λ e k a. fine-plane k (none-at _ (length planes) e k a), λ h. none-of _ (length planes) (λ k a. plane-fine k (h k a)))
+
+  found-lowest : (place : Place) → badSample planes stride width height tops ≡ At place → IsBadSample planes stride width height tops place
+  unfolding badSample
+  found-lowest place e =
+      let r = found-in _ (length planes) place e in
+      let t = at-means (getD planes (r .index) []) (r .index) stride width height (getD tops (r .index) 0) place .0 (r .there) in
+      let q : r .index ≡ place .plane = sym (t .plane-is) in
+      record {
+        plane-inside = rw q at (r .inside);
+        first-there = rw q at t;
+        fine-below = λ k a. fine-plane k (r .none k (rw (← q) at a));
+      }
+
+  lowest-found : (place : Place) → IsBadSample planes stride width height tops place → badSample planes stride width height tops ≡ At place
+  unfolding badSample
+  lowest-found place b =
+      here _ (length planes) (place .plane) place (b .plane-inside) (none-of _ (place .plane) (λ k a. plane-fine k (b .fine-below k a)))
+      (at-means (getD planes (place .plane) []) (place .plane) stride width height (getD tops (place .plane) 0) place .1 (b .first-there))
+
+  -- the place found is in the lowest plane that has a bad sample, and is that plane's first
+  pub at-in-planes-means : (place : Place) → (badSample planes stride width height tops ≡ At place) ↔ IsBadSample planes stride width height tops place
+  at-in-planes-means place = (found-lowest place, lowest-found place)
+
+-- ---- padding never matters
+
+pub first-bad-same : (p q : List ℕ) (plane stride width height top : ℕ) → SamePicture stride width height p q
+    → firstBad p plane stride width height top ≡ firstBad q plane stride width height top
+unfolding firstBad badInRow badHere
+first-bad-same p q plane stride width height top e =
+    first-same _ _ height (λ j a. first-same _ _ width (λ i b. rw (e j i a b)))
+
+pub bad-sample-same : (p0 p1 p2 q0 q1 q2 : List ℕ) (stride width height : ℕ) (tops : List ℕ)
+    → SamePicture stride width height p0 q0 → SamePicture stride width height p1 q1 → SamePicture stride width height p2 q2
+    → badSample (p0 ∷ p1 ∷ p2 ∷ []) stride width height tops ≡ badSample (q0 ∷ q1 ∷ q2 ∷ []) stride width height tops
+unfolding badSample firstOf
+bad-sample-same p0 p1 p2 q0 q1 q2 stride width height tops e0 e1 e2 =
+    rw (
+      first-bad-same p0 q0 0 stride width height (getD tops 0 0) e0,
+      first-bad-same p1 q1 1 stride width height (getD tops 1 0) e1,
+      first-bad-same p2 q2 2 stride width height (getD tops 2 0) e2,
+    )

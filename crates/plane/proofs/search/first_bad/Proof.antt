@@ -1,0 +1,156 @@
+-- `plane::search::first_bad` meets its contract: nothing was found in the rows passed, nor in the columns of the row at hand.
+use mathlib.Core.Path.{_≡_, refl, sym, _∙_}
+use Prim.Native.Nat.{ℕ, _≤_, _-_}
+use native.Mathlib.Omega.{arith}
+use borrow.Author.Needs.{needs}
+use Rattle.plane.specs.First.{firstOf, badHere, badInRow, firstBad}
+use Rattle.plane.specs.declared.search.Found.the-variants.{At, Nothing}
+use Rattle.plane.proofs.Searches.{none-more, none-all, here, bad, fine, row-fine}
+use Rattle.plane.proofs.search.first_bad.Statement.{statement}
+use Rattle.plane.proofs.search.first_bad.Tie as tie
+
+abbrev Inv-loop : tie.InvT-loop
+Inv-loop p plane stride width height top found₀ j a e i₀ found i =
+    (i ≤ width) × ((found ≡ Nothing) × (firstOf i (badHere p plane stride top j) ≡ Nothing))
+
+abbrev μ-loop : tie.MeasureT-loop
+μ-loop p plane stride width height top found₀ j a e i₀ found i = width - i
+
+abbrev Inv-rows : tie.InvT-rows
+Inv-rows p plane stride width height top found₀ j₀ found j =
+    (j ≤ height) × ((found ≡ Nothing) × (firstOf j (badInRow p plane stride width top) ≡ Nothing))
+
+abbrev μ-rows : tie.MeasureT-rows
+μ-rows p plane stride width height top found₀ j₀ found j = height - j
+
+rows-holds : tie.Need-rows-holds Inv-loop μ-loop Inv-rows μ-rows
+unfolding firstOf
+rows-holds c = search needs
+
+row-start-requires : tie.Need-row-start-requires Inv-loop μ-loop Inv-rows μ-rows
+row-start-requires c κs = search needs
+
+add-e : tie.Need-add-e Inv-loop μ-loop Inv-rows μ-rows
+add-e c = search needs
+
+mul-largest : tie.Need-mul-largest Inv-loop μ-loop Inv-rows μ-rows
+mul-largest c = search needs
+
+sub-largest : tie.Need-sub-largest Inv-loop μ-loop Inv-rows μ-rows
+sub-largest c = search needs
+
+part-largest-start : tie.Need-part-largest-start Inv-loop μ-loop Inv-rows μ-rows
+part-largest-start c = search needs
+
+part-largest-end : tie.Need-part-largest-end Inv-loop μ-loop Inv-rows μ-rows
+part-largest-end c = search needs
+
+largest-requires : tie.Need-largest-requires Inv-loop μ-loop Inv-rows μ-rows
+largest-requires c κs = search needs
+
+add-j : tie.Need-add-j Inv-loop μ-loop Inv-rows μ-rows
+add-j c = search needs
+
+rows-less : tie.Need-rows-less Inv-loop μ-loop Inv-rows μ-rows
+rows-less c = search needs
+
+rows-again : tie.Need-rows-again Inv-loop μ-loop Inv-rows μ-rows
+rows-again c =
+    let r = c .before .before .before .before .before .rows in
+    let none =
+    row-fine _ _ _ _ _ _ (c .before .before .before .row-start .ensures .is) _ _ (omega arith) (c .before .largest .ensures) (c .if1 .taken) in
+    (omega arith, (r .inv .1 .0, none-more _ (r .j) (r .inv .1 .1) none))
+
+loop-holds : tie.Need-loop-holds Inv-loop μ-loop Inv-rows μ-rows
+unfolding firstOf
+loop-holds c = (omega arith, (c .before .before .before .before .before .rows .inv .1 .0, refl))
+
+add-if2 : tie.Need-add-if2 Inv-loop μ-loop Inv-rows μ-rows
+add-if2 c = search needs
+
+mul-if2 : tie.Need-mul-if2 Inv-loop μ-loop Inv-rows μ-rows
+mul-if2 c = search needs
+
+shared-slice-read-if2 : tie.Need-shared-slice-read-if2 Inv-loop μ-loop Inv-rows μ-rows
+shared-slice-read-if2 c = search needs
+
+cast-row : tie.Need-cast-row Inv-loop μ-loop Inv-rows μ-rows
+cast-row c = search needs
+
+cast-column : tie.Need-cast-column Inv-loop μ-loop Inv-rows μ-rows
+cast-column c = search needs
+
+add-i : tie.Need-add-i Inv-loop μ-loop Inv-rows μ-rows
+add-i c = search needs
+
+loop-less : tie.Need-loop-less Inv-loop μ-loop Inv-rows μ-rows
+loop-less c = search needs
+
+loop-again : tie.Need-loop-again Inv-loop μ-loop Inv-rows μ-rows
+loop-again c =
+    let l = c .before .before .before .loop in
+    let none = fine _ _ _ _ _ _ (c .before .before .before .before .before .before .before .row-start .ensures .is) (l .i) (c .if2 .left) in
+    (omega arith, (l .inv .1 .0, none-more _ (l .i) (l .inv .1 .1) none))
+
+add-j-2 : tie.Need-add-j-2 Inv-loop μ-loop Inv-rows μ-rows
+add-j-2 c = search needs
+
+rows-less-2 : tie.Need-rows-less-2 Inv-loop μ-loop Inv-rows μ-rows
+rows-less-2 c = search needs
+
+rows-again-2 : tie.Need-rows-again-2 Inv-loop μ-loop Inv-rows μ-rows
+unfolding badInRow
+rows-again-2 c =
+    let r = c .before .before .before .before .before .before .before .rows in
+    let l = c .before .loop in
+    (omega arith, (l .inv .1 .0, none-more _ (r .j) (r .inv .1 .1) (none-all _ (l .i) _ (omega arith) (l .inv .1 .1))))
+
+returns : tie.Need-returns Inv-loop μ-loop Inv-rows μ-rows
+unfolding firstBad
+returns c =
+    let r = c .before .rows in
+    r .inv .1 .0 ∙ sym (none-all _ (r .j) _ (omega arith) (r .inv .1 .1))
+
+returns-2 : tie.Need-returns-2 Inv-loop μ-loop Inv-rows μ-rows
+unfolding firstBad badInRow
+returns-2 c =
+    let r = c .before .before .before .before .before .before .before .before .before .rows in
+    let l = c .before .before .before .loop in
+    let found = bad _ _ _ _ _ _ (c .before .before .before .before .before .before .before .row-start .ensures .is) (l .i) (c .if2 .taken) in
+    sym
+    (here _ _ (r .j) _ (omega arith) (r .inv .1 .1)
+    (here _ _ (l .i) _ (omega arith) (l .inv .1 .1) found))
+
+pub first-bad-spec : {M : Type 1} → statement M
+first-bad-spec =
+    tie.close
+    (tie.spec
+    Inv-loop
+    μ-loop
+    Inv-rows
+    μ-rows
+    rows-holds
+    row-start-requires
+    add-e
+    mul-largest
+    sub-largest
+    part-largest-start
+    part-largest-end
+    largest-requires
+    add-j
+    rows-less
+    rows-again
+    loop-holds
+    add-if2
+    mul-if2
+    shared-slice-read-if2
+    cast-row
+    cast-column
+    add-i
+    loop-less
+    loop-again
+    add-j-2
+    rows-less-2
+    rows-again-2
+    returns
+    returns-2)

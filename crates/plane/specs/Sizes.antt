@@ -1,0 +1,93 @@
+-- Refusals 8 and 9. A width or a height is a number from 1 to 8192, and a stride one from the width to 16,384: these limits stand here alone.
+use mathlib.Core.Path.{_≡_}
+use mathlib.Core.Bool.{Bool, true, false, _||_}
+use mathlib.Core.List.{List, [], _∷_}
+use Prim.Native.Nat.{ℕ, _+_, _*_, _-_, _≤_, _<_}
+use lib.Dec.{ltb}
+use Rattle.refusal.specs.Table.{row, first}
+use Rattle.plane.specs.declared.size.Side.{Side}
+
+abbrev pub mostSize : ℕ
+mostSize = 8192
+
+abbrev pub mostStride : ℕ
+mostStride = 16384
+
+-- whether n is below least or above most
+unfoldable pub outside : ℕ → ℕ → ℕ → Bool
+outside n least most = ltb n least || ltb most n
+
+-- whether some side answers yes
+unfoldable pub someSide : (Side → Bool) → List Side → Bool
+someSide test [] = false
+someSide test (s ∷ ss) = test s || someSide test ss
+
+-- width or height outside 1..8192
+unfoldable pub pictureOutside : ℕ → ℕ → Bool
+pictureOutside width height = outside width 1 mostSize || outside height 1 mostSize
+
+-- a stride below the width or above 16,384
+abbrev pub strideOutside : ℕ → Side → Bool
+strideOutside width side = outside (side .stride) width mostStride
+
+-- how many elements a plane must have
+abbrev pub needed : ℕ → ℕ → ℕ → ℕ
+needed width height stride = (height - 1) * stride + width
+
+-- a plane is shorter than that
+unfoldable pub sideShort : ℕ → ℕ → Side → Bool
+sideShort width height side =
+    ltb (side .n0) (needed width height (side .stride))
+    || (ltb (side .n1) (needed width height (side .stride)) || ltb (side .n2) (needed width height (side .stride)))
+
+-- rows 8 and 9 of the refusals, for the sides that a call has
+unfoldable pub sizeRefusal : ℕ → ℕ → List Side → ℕ
+sizeRefusal width height sides =
+    first
+    (row 8 (pictureOutside width height || someSide (strideOutside width) sides)
+    ∷ row 9 (someSide (sideShort width height) sides)
+    ∷ [])
+
+-- n from least to most, as a fact
+pub record Within (n least most : ℕ) : Type 0 where
+  pub from-least : least ≤ n
+  pub to-most : n ≤ most
+
+-- the sizes at which a plane is served
+pub record Sized (width height stride : ℕ) : Type 0 where
+  pub width-within : Within width 1 mostSize
+  pub height-within : Within height 1 mostSize
+  pub stride-within : Within stride width mostStride
+
+-- three planes of at least need elements
+pub record Long (need n0 n1 n2 : ℕ) : Type 0 where
+  pub long0 : need ≤ n0
+  pub long1 : need ≤ n1
+  pub long2 : need ≤ n2
+
+-- a side that neither row refuses
+pub record ServedSide (width height : ℕ) (side : Side) : Type 0 where
+  pub sized : Sized width height (side .stride)
+  pub long : Long (needed width height (side .stride)) (side .n0) (side .n1) (side .n2)
+
+-- a fact of every side
+abbrev pub EverySide : (Side → Type 0) → List Side → Type 0
+EverySide fact [] = Unit
+EverySide fact (s ∷ ss) = fact s × EverySide fact ss
+
+-- what row 8 tests, as a fact
+pub record SizesServed (width height : ℕ) (sides : List Side) : Type 0 where
+  pub width-within : Within width 1 mostSize
+  pub height-within : Within height 1 mostSize
+  pub strides-within : EverySide (λ s. Within (s .stride) width mostStride) sides
+
+-- what row 9 tests, as a fact
+abbrev pub PlanesLong : ℕ → ℕ → List Side → Type 0
+PlanesLong width height sides =
+    EverySide (λ s. Long (needed width height (s .stride)) (s .n0) (s .n1) (s .n2)) sides
+
+-- where row j starts: not after the last row, and far below the largest index
+pub record RowStart (j stride height r : ℕ) : Type 0 where
+  pub is : r ≡ j * stride
+  pub last : r ≤ (height - 1) * stride
+  pub most : r ≤ mostSize * mostStride
