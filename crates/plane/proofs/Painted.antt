@@ -2,17 +2,18 @@
 -- `Painted` is the loop's invariant; it begins by `painted-none`, a turn is `painted-more`, and `painted-end` says what the plane then is.
 use mathlib.Core.Path.{_≡_, refl, sym, ap, _∙_}
 use mathlib.Core.List.{List}
-use mathlib.Core.Bool.{Bool, true, false, and-false}
+use mathlib.Core.Bool.{and-false}
 use mathlib.Core.Logic.{⊎-elim}
 use Prim.Native.Nat.{ℕ, _+_, _*_, _-_, _/_, _%_, _≤_, _<_}
 use native.Mathlib.Nat.{mul-add-div-right, mul-add-mod-self-right, div-eq-of-lt, mod-eq-of-lt, add-zero, le-div-iff-mul-le}
 use native.Mathlib.Omega.{arith}
 use borrow.Author.Tests.{lt-ltb, le-ltb}
 use lib.Dec.{ltb}
-use lib.ListN.{length, take}
+use lib.ListN.{length, getD, take, drop}
 use lib.Seq.{take-all}
-use Rattle.plane.specs.Plane.{tab, zeros, cell, planeOf, patched, cleared}
-use Rattle.plane.proofs.Tables.{below-or-not, length-tab, tab-same, patched-length, patched-more}
+use Rattle.plane.specs.Sizes.{needed, RowStart}
+use Rattle.plane.specs.Plane.{tab, zeros, cell, planeOf, sampleAt, patched, cleared}
+use Rattle.plane.proofs.Tables.{below-or-not, length-tab, tab-same, part-length, part-at, patched-length, patched-more}
 
 -- row j and column i of the element j · stride + i
 module _ (stride j i : ℕ) (l : i < stride) where
@@ -36,6 +37,28 @@ module _ (stride width height : ℕ) (sample : ℕ → ℕ → ℕ) where
   unfolding cell
   cell-below k p h = rw (le-ltb (k / stride) height (le-div-iff-mul-le {k = stride} {x = height} {y = k} p .1 h))
 
+-- the part of a source plane that is row j, from s
+pub part-width : (p : List ℕ) (s width : ℕ) → s + width ≤ length p → length (take (s + width - s) (drop s p)) ≡ width
+part-width p s width h = omega (arith, part-length p s (s + width) (omega arith) h)
+
+pub part-sample : (p : List ℕ) (stride j s width i : ℕ) → s ≡ j * stride → i < width
+    → getD (take (s + width - s) (drop s p)) i 0 ≡ sampleAt p stride j i
+part-sample p stride j s width i q h = rw (← q) (part-at p s (s + width) i (omega arith))
+
+-- How far the loop is: j rows are written, all of the plane before `done`, which is not past the start of row j.
+pub record Progress (stride width height j done : ℕ) : Type 0 where
+  pub rows : j ≤ height
+  pub until-row : done ≤ j * stride
+  pub until-end : done ≤ needed width height stride
+
+pub progress-none : (stride width height : ℕ) → Progress stride width height 0 0
+progress-none stride width height = omega arith
+
+pub progress-more : (stride width height j done a : ℕ) → Progress stride width height j done → j < height → width ≤ stride
+    → RowStart j stride height a → Progress stride width height (j + 1) (a + width)
+progress-more stride width height j done a d h w r =
+    record { rows = omega arith; until-row = omega (arith, r .is); until-end = omega (arith, r .last) }
+
 -- The invariant: y has n elements, it is the plane as far as `done`, and from there to row j the plane has zeros.
 pub record Painted (stride width height : ℕ) (sample : ℕ → ℕ → ℕ) (n : ℕ) (y : List ℕ) (j done : ℕ) : Type 0 where
   pub len : length y ≡ n
@@ -58,23 +81,23 @@ module _ (stride width height : ℕ) (sample : ℕ → ℕ → ℕ) (n : ℕ) wh
   pub cleared-length : (y : List ℕ) (done e : ℕ) → length y ≡ n → done ≤ e → e ≤ n → length (cleared y done e) ≡ n
   cleared-length y done e l a b = patched-length y (zeros (e - done)) done e a (omega arith) (length-tab _ _) ∙ l
 
-  -- one row more: y₁ has zeros up to row j, and y₂ has the row in its part from there
-  pub painted-more : (y y₁ ys y₂ : List ℕ) (j done a : ℕ) → Painted stride width height sample n y j done
+  -- one row more: y₁ has zeros up to row j, and y₂ has in its part from there a row that was made of parts of the source
+  pub painted-more : (y y₁ ys y₂ : List ℕ) (j done a m : ℕ) (f : ℕ → ℕ) → Painted stride width height sample n y j done
       → width ≤ stride → j < height → done ≤ a → a ≡ j * stride → a + width ≤ n
-      → y₁ ≡ cleared y done a → ys ≡ tab width (sample j) → y₂ ≡ patched y₁ a (a + width) ys
-      → Painted stride width height sample n y₂ (j + 1) (a + width)
-  painted-more y y₁ ys y₂ j done a d v b k q c e₁ e e₂ =
-      let f = cell stride width height sample in
-      let m : length y₁ ≡ n = rw e₁ (cleared-length y done a (d .len) k (omega arith)) in
-      let t : take a y₁ ≡ tab a f =
+      → y₁ ≡ cleared y done a → ys ≡ tab m f → m ≡ width → ((i : ℕ) → i < width → f i ≡ sample j i)
+      → y₂ ≡ patched y₁ a (a + width) ys → Painted stride width height sample n y₂ (j + 1) (a + width)
+  painted-more y y₁ ys y₂ j done a m f d w b k q c e₁ e l r e₂ =
+      let element = cell stride width height sample in
+      let n₁ : length y₁ ≡ n = rw e₁ (cleared-length y done a (d .len) k (omega arith)) in
+      let t : take a y₁ ≡ tab a element =
       rw e₁ (cleared-more y done a (d .len) (d .so-far) k (omega arith) (λ x l o. d .gap x l (omega arith))) in
-      let w : a + width - a ≡ width = omega arith in
-      let r : ys ≡ tab (a + width - a) (λ (i : ℕ). f (a + i)) =
-      rw (w, q) (e ∙ tab-same width _ _ (λ i l. sym (cell-in stride width height sample j i b l (omega arith)))) in
+      let v : a + width - a ≡ width = omega arith in
+      let u : ys ≡ tab (a + width - a) (λ (i : ℕ). element (a + i)) =
+      rw (v, q) (e ∙ rw l (tab-same width _ _ (λ i o. r i o ∙ sym (cell-in stride width height sample j i b o (omega arith))))) in
       record {
-        len = rw e₂ (patched-length y₁ ys a (a + width) (omega arith) (omega arith) (ap length r ∙ length-tab _ _) ∙ m);
-        so-far = rw e₂ (patched-more f y₁ ys a (a + width) (omega arith) (omega arith) t r);
-        gap = λ x l o. ap f (omega arith) ∙ cell-right stride width height sample j (x - j * stride) (omega arith) (omega arith);
+        len = rw e₂ (patched-length y₁ ys a (a + width) (omega arith) (omega arith) (ap length u ∙ length-tab _ _) ∙ n₁);
+        so-far = rw e₂ (patched-more element y₁ ys a (a + width) (omega arith) (omega arith) t u);
+        gap = λ x l o. ap element (omega arith) ∙ cell-right stride width height sample j (x - j * stride) (omega arith) (omega arith);
       }
 
   -- the zeros after the last row

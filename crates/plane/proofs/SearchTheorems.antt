@@ -1,9 +1,8 @@
 -- What the answer of a search means, and that it depends on the picture's samples alone.
-use mathlib.Core.Path.{_≡_, refl, sym, ap, _∙_, subst}
-use mathlib.Core.Bool.{Bool, true, false}
+use mathlib.Core.Path.{_≡_, refl, sym, _∙_, subst}
 use mathlib.Core.List.{List, [], _∷_}
-use mathlib.Core.Logic.{_↔_, _⊎_, ⊎-elim, inl, inr}
-use Prim.Native.Nat.{ℕ, zero, suc, _+_, _*_, _-_, _^_, _≤_, _<_}
+use mathlib.Core.Logic.{_↔_, ⊎-elim, inl, inr}
+use Prim.Native.Nat.{ℕ, zero, suc, _*_, _-_, _^_, _≤_, _<_}
 use native.Mathlib.Nat.{eq-or-lt-of-le, le-of-suc-le-suc, not-suc-le-zero}
 use native.Mathlib.Omega.{arith}
 use borrow.Author.Tests.{ltb-true, ltb-false}
@@ -14,10 +13,10 @@ use Rattle.sample.proofs.Picks.{chose-first, chose-second}
 use Rattle.refusal.specs.Table.{at}
 use Rattle.refusal.specs.declared.Place.{Place}
 use Rattle.plane.specs.Plane.{sampleAt, SamePicture}
-use Rattle.plane.specs.First.{orElse, firstOf, badHere, badInRow, firstBad, badSample, AllFine, Before, IsFirstBad, IsBadSample}
+use Rattle.plane.specs.First.{orElse, firstOf, badHere, badInRow, firstBad, badSample, AllFine, IsFirstBad, IsBadSample}
 use Rattle.plane.specs.declared.search.Found.{Found}
 use Rattle.plane.specs.declared.search.Found.the-variants.{At, Nothing}
-use Rattle.plane.proofs.Searches.{here, none-of, first-same, bad, fine}
+use Rattle.plane.proofs.Searches.{first-here, none-of, first-same, sample-bad, sample-fine}
 
 -- a sample is above the largest of its depth exactly where it is 2^depth or more
 pub beyond-depth : (depth s : ℕ) → (2 ^ depth - 1 < s) ↔ (2 ^ depth ≤ s)
@@ -64,30 +63,30 @@ found-in f (suc n) place e = found-step f n place (firstOf n f) refl (found-in f
 -- ---- one plane
 
 module _ (p : List ℕ) (plane stride width height top : ℕ) where
-  here-fine : (j i : ℕ) → badHere p plane stride top j i ≡ Nothing → sampleAt p stride j i ≤ top
+  here-is-fine : (j i : ℕ) → badHere p plane stride top j i ≡ Nothing → sampleAt p stride j i ≤ top
   unfolding badHere
-  here-fine j i e = ltb-false top (sampleAt p stride j i) (chose-second (ltb top (sampleAt p stride j i)) _ _ _ e (something (at plane j i)) .0)
+  here-is-fine j i e = ltb-false top (sampleAt p stride j i) (chose-second (ltb top (sampleAt p stride j i)) _ _ _ e (something (at plane j i)) .0)
 
-  here-bad : (j i : ℕ) (place : Place) → badHere p plane stride top j i ≡ At place
+  here-is-bad : (j i : ℕ) (place : Place) → badHere p plane stride top j i ≡ At place
       → (top < sampleAt p stride j i) × (at plane j i ≡ place)
   unfolding badHere
-  here-bad j i place e =
+  here-is-bad j i place e =
       let t = chose-first (ltb top (sampleAt p stride j i)) _ _ _ e (λ q. something place (sym q)) in
       (ltb-true top (sampleAt p stride j i) (t .0), (let q = t .1 in cc))
 
-  fine-row : (j : ℕ) → ((i : ℕ) → i < width → sampleAt p stride j i ≤ top) → badInRow p plane stride width top j ≡ Nothing
+  row-none : (j : ℕ) → ((i : ℕ) → i < width → sampleAt p stride j i ≤ top) → badInRow p plane stride width top j ≡ Nothing
   unfolding badInRow
-  fine-row j h = none-of _ width (λ i l. fine p plane stride top j (j * stride) refl i (h i l))
+  row-none j h = none-of _ width (λ i l. sample-fine p plane stride top j (j * stride) refl i (h i l))
 
-  row-fine : (j : ℕ) → badInRow p plane stride width top j ≡ Nothing → (i : ℕ) → i < width → sampleAt p stride j i ≤ top
+  row-all-fine : (j : ℕ) → badInRow p plane stride width top j ≡ Nothing → (i : ℕ) → i < width → sampleAt p stride j i ≤ top
   unfolding badInRow
-  row-fine j e i l = here-fine j i (none-at _ width e i l)
+  row-all-fine j e i l = here-is-fine j i (none-at _ width e i l)
 
   -- Nothing: every sample is within its depth
   pub nothing-means : (firstBad p plane stride width height top ≡ Nothing) ↔ AllFine p stride width height top
   unfolding firstBad
   nothing-means =
-      (λ e j i a b. row-fine j (none-at _ height e j a) i b, λ h. none-of _ height (λ j a. fine-row j (λ i b. h j i a b)))
+      (λ e j i a b. row-all-fine j (none-at _ height e j a) i b, λ h. none-of _ height (λ j a. row-none j (λ i b. h j i a b)))
 
   -- the place found is that of a sample beyond its depth, before which there is none
   found-first : (place : Place) → firstBad p plane stride width height top ≡ At place → IsFirstBad p plane stride width height top place
@@ -95,7 +94,7 @@ module _ (p : List ℕ) (plane stride width height top : ℕ) where
   found-first place e =
       let r = found-in _ height place e in
       let c = found-in _ width place (r .there) in
-      let t = here-bad (r .index) (c .index) place (c .there) in
+      let t = here-is-bad (r .index) (c .index) place (c .there) in
       subst (IsFirstBad p plane stride width height top) (t .1)
       (record {
         plane-is = refl;
@@ -104,20 +103,20 @@ module _ (p : List ℕ) (plane stride width height top : ℕ) where
         beyond = t .0;
         none-before = λ j i a b o.
             ⊎-elim
-            (λ (w : j < r .index). row-fine j (r .none j w) i b)
-            (λ w. rw (w .0) (here-fine (r .index) i (c .none i (w .1)))) o;
+            (λ (w : j < r .index). row-all-fine j (r .none j w) i b)
+            (λ w. rw (w .0) (here-is-fine (r .index) i (c .none i (w .1)))) o;
       })
 
   first-found : (place : Place) → IsFirstBad p plane stride width height top place → firstBad p plane stride width height top ≡ At place
   unfolding firstBad badInRow
   first-found place k =
-      let rows = none-of _ (place .row) (λ j a. fine-row j (λ i b. k .none-before j i (omega (arith, k .row-inside)) b (inl a))) in
+      let rows = none-of _ (place .row) (λ j a. row-none j (λ i b. k .none-before j i (omega (arith, k .row-inside)) b (inl a))) in
       let columns =
       none-of _ (place .column)
-      (λ i b. fine p plane stride top (place .row) _ refl i (k .none-before (place .row) i (k .row-inside) (omega (arith, k .column-inside)) (inr (refl, b)))) in
-      here _ height (place .row) place (k .row-inside) rows
-      (here _ width (place .column) place (k .column-inside) columns
-      (bad p plane stride top (place .row) _ refl (place .column) (k .beyond) ∙ rw (← k .plane-is)))
+      (λ i b. sample-fine p plane stride top (place .row) _ refl i (k .none-before (place .row) i (k .row-inside) (omega (arith, k .column-inside)) (inr (refl, b)))) in
+      first-here _ height (place .row) place (k .row-inside) rows
+      (first-here _ width (place .column) place (k .column-inside) columns
+      (sample-bad p plane stride top (place .row) _ refl (place .column) (k .beyond) ∙ rw (← k .plane-is)))
 
   pub at-means : (place : Place) → (firstBad p plane stride width height top ≡ At place) ↔ IsFirstBad p plane stride width height top place
   at-means place = (found-first place, first-found place)
@@ -129,16 +128,16 @@ module _ (planes : List (List ℕ)) (stride width height : ℕ) (tops : List ℕ
   abbrev pub FinePlane : ℕ → Type 0
   FinePlane k = AllFine (getD planes k []) stride width height (getD tops k 0)
 
-  fine-plane : (k : ℕ) → firstBad (getD planes k []) k stride width height (getD tops k 0) ≡ Nothing → FinePlane k
-  fine-plane k = nothing-means (getD planes k []) k stride width height (getD tops k 0) .0
+  plane-all-fine : (k : ℕ) → firstBad (getD planes k []) k stride width height (getD tops k 0) ≡ Nothing → FinePlane k
+  plane-all-fine k = nothing-means (getD planes k []) k stride width height (getD tops k 0) .0
 
-  plane-fine : (k : ℕ) → FinePlane k → firstBad (getD planes k []) k stride width height (getD tops k 0) ≡ Nothing
-  plane-fine k = nothing-means (getD planes k []) k stride width height (getD tops k 0) .1
+  plane-none : (k : ℕ) → FinePlane k → firstBad (getD planes k []) k stride width height (getD tops k 0) ≡ Nothing
+  plane-none k = nothing-means (getD planes k []) k stride width height (getD tops k 0) .1
 
   pub nothing-in-planes-means : (badSample planes stride width height tops ≡ Nothing) ↔ ((k : ℕ) → k < length planes → FinePlane k)
   unfolding badSample
   nothing-in-planes-means =
-      (λ e k a. fine-plane k (none-at _ (length planes) e k a), λ h. none-of _ (length planes) (λ k a. plane-fine k (h k a)))
+      (λ e k a. plane-all-fine k (none-at _ (length planes) e k a), λ h. none-of _ (length planes) (λ k a. plane-none k (h k a)))
 
   found-lowest : (place : Place) → badSample planes stride width height tops ≡ At place → IsBadSample planes stride width height tops place
   unfolding badSample
@@ -149,13 +148,13 @@ module _ (planes : List (List ℕ)) (stride width height : ℕ) (tops : List ℕ
       record {
         plane-inside = rw q at (r .inside);
         first-there = rw q at t;
-        fine-below = λ k a. fine-plane k (r .none k (rw (← q) at a));
+        fine-below = λ k a. plane-all-fine k (r .none k (omega (arith, a, q)));
       }
 
   lowest-found : (place : Place) → IsBadSample planes stride width height tops place → badSample planes stride width height tops ≡ At place
   unfolding badSample
   lowest-found place b =
-      here _ (length planes) (place .plane) place (b .plane-inside) (none-of _ (place .plane) (λ k a. plane-fine k (b .fine-below k a)))
+      first-here _ (length planes) (place .plane) place (b .plane-inside) (none-of _ (place .plane) (λ k a. plane-none k (b .fine-below k a)))
       (at-means (getD planes (place .plane) []) (place .plane) stride width height (getD tops (place .plane) 0) place .1 (b .first-there))
 
   -- the place found is in the lowest plane that has a bad sample, and is that plane's first

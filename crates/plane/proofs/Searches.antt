@@ -1,7 +1,7 @@
 -- Laws of searches: the first of some places at which something is found.
-use mathlib.Core.Path.{_≡_, refl, sym, ap, _∙_}
+use mathlib.Core.Path.{_≡_, refl}
 use mathlib.Core.List.{List}
-use mathlib.Core.Logic.{_⊎_, ⊎-elim}
+use mathlib.Core.Logic.{⊎-elim}
 use Prim.Native.Nat.{ℕ, zero, suc, _+_, _*_, _-_, _≤_, _<_}
 use native.Mathlib.Nat.{eq-or-lt-of-le, le-of-suc-le-suc, not-suc-le-zero}
 use native.Mathlib.Numerals.{add-one}
@@ -10,8 +10,7 @@ use borrow.Author.Tests.{lt-ltb, le-ltb}
 use lib.ListN.{length, getD, take, drop}
 use Rattle.refusal.specs.Table.{at}
 use Rattle.refusal.specs.declared.Place.{Place}
-use Rattle.plane.specs.Plane.{sampleAt}
-use Rattle.plane.specs.First.{orElse, firstOf, badHere, badInRow, firstBad, NoneAbove}
+use Rattle.plane.specs.First.{orElse, firstOf, badHere, badInRow, NoneAbove}
 use Rattle.plane.specs.declared.search.Found.{Found}
 use Rattle.plane.specs.declared.search.Found.the-variants.{At, Nothing}
 use Rattle.plane.proofs.Tables.{part-length, part-at}
@@ -26,13 +25,13 @@ pub none-all : (f : ℕ → Found) (c n : ℕ) → c ≡ n → firstOf c f ≡ N
 none-all f c n q e = rw q at e
 
 -- nothing among the first c, and something at c below n
-pub here : (f : ℕ → Found) (n c : ℕ) (place : Place) → c < n → firstOf c f ≡ Nothing → f c ≡ At place → firstOf n f ≡ At place
+pub first-here : (f : ℕ → Found) (n c : ℕ) (place : Place) → c < n → firstOf c f ≡ Nothing → f c ≡ At place → firstOf n f ≡ At place
 unfolding firstOf orElse
-here f zero c place h e q = absurd (not-suc-le-zero h)
-here f (suc n) c place h e q =
+first-here f zero c place h e q = absurd (not-suc-le-zero h)
+first-here f (suc n) c place h e q =
     ⊎-elim
     (λ (w : c ≡ n). rw (← w, e, q))
-    (λ (w : c < n). rw (here f n c place w e q))
+    (λ (w : c < n). rw (first-here f n c place w e q))
     (eq-or-lt-of-le (le-of-suc-le-suc h))
 
 pub none-of : (f : ℕ → Found) (n : ℕ) → ((i : ℕ) → i < n → f i ≡ Nothing) → firstOf n f ≡ Nothing
@@ -48,13 +47,13 @@ first-same f g (suc n) e = rw (first-same f g n (λ i h. e i (omega arith)), e n
 
 -- a sample of row j, which starts at a
 module _ (p : List ℕ) (plane stride top j a : ℕ) (starts : a ≡ j * stride) where
-  pub bad : (i : ℕ) → top < getD p (a + i) 0 → badHere p plane stride top j i ≡ At (at plane j i)
+  pub sample-bad : (i : ℕ) → top < getD p (a + i) 0 → badHere p plane stride top j i ≡ At (at plane j i)
   unfolding badHere
-  bad i h = rw (← starts, lt-ltb _ _ h)
+  sample-bad i h = rw (← starts, lt-ltb _ _ h)
 
-  pub fine : (i : ℕ) → getD p (a + i) 0 ≤ top → badHere p plane stride top j i ≡ Nothing
+  pub sample-fine : (i : ℕ) → getD p (a + i) 0 ≤ top → badHere p plane stride top j i ≡ Nothing
   unfolding badHere
-  fine i h = rw (← starts, le-ltb _ _ h)
+  sample-fine i h = rw (← starts, le-ltb _ _ h)
 
   -- no sample of the row is above m, and m is not above top
   pub row-fine : (width m : ℕ) → a + width ≤ length p → NoneAbove (take (a + width - a) (drop a p)) m → m ≤ top
@@ -63,7 +62,7 @@ module _ (p : List ℕ) (plane stride top j a : ℕ) (starts : a ≡ j * stride)
   row-fine width m h e l =
       none-of _ width
       (λ i k.
-      fine i
+      sample-fine i
       (omega (
         arith,
         e i (omega (arith, part-length p a (a + width) (omega arith) h)),

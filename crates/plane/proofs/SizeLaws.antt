@@ -1,15 +1,15 @@
 -- Laws of sizes: the tests of refusals 8 and 9 and the facts that they test.
 use mathlib.Core.Path.{_≡_, refl}
-use mathlib.Core.Bool.{Bool, true, false}
-use mathlib.Core.List.{List, [], _∷_}
-use Prim.Native.Nat.{ℕ, _+_, _*_, _-_, _≤_, _<_}
+use mathlib.Core.Bool.{true, false, or-self-left}
+use mathlib.Core.List.{[], _∷_}
+use Prim.Native.Nat.{ℕ, _*_, _-_, _≤_, _<_}
 use native.Mathlib.Nat.{mul-le-mul, mul-le-mul-right}
 use native.Mathlib.Omega.{arith}
 use borrow.Author.Tests.{ltb-false, le-ltb}
 use lib.Dec.{ltb}
 use Rattle.sample.proofs.Picks.{must, neither}
 use Rattle.plane.specs.declared.size.Side.{Side}
-use Rattle.plane.specs.Sizes.{mostSize, mostStride, outside, pictureOutside, needed, sideShort, RowStart, Within, Sized, Long}
+use Rattle.plane.specs.Sizes.{mostSize, mostStride, outside, pictureOutside, strideOutside, anyShort, sideShort, someSide, sizeRefusal, RowStart, Within, Sized, LongSide}
 
 -- the start of a row of a served size
 pub row-start : (j stride height : ℕ) → j < height → height ≤ mostSize → stride ≤ mostStride → RowStart j stride height (j * stride)
@@ -42,19 +42,21 @@ sized-of width height stride p s =
 
 -- the planes of a side, by their lengths
 module _ (width height : ℕ) (side : Side) where
-  abbrev pub LongSide : Type 0
-  LongSide = Long (needed width height (side .stride)) (side .n0) (side .n1) (side .n2)
-
-  pub long-of : sideShort width height side ≡ false → LongSide
-  unfolding sideShort
+  pub long-of : sideShort width height side ≡ false → LongSide width height side
+  unfolding sideShort anyShort
   long-of e =
       let t = neither (ltb (side .n0) _) _ e in
       let u = neither (ltb (side .n1) _) _ (t .1) in
       record { long0 = ltb-false _ _ (t .0); long1 = ltb-false _ _ (u .0); long2 = ltb-false _ _ (u .1) }
 
-  pub not-short : LongSide → sideShort width height side ≡ false
-  unfolding sideShort
+  pub not-short : LongSide width height side → sideShort width height side ≡ false
+  unfolding sideShort anyShort
   not-short k = rw (le-ltb _ _ (k .long0), le-ltb _ _ (k .long1), le-ltb _ _ (k .long2))
 
-  pub short : (LongSide → ⊥) → sideShort width height side ≡ true
+  pub short : (LongSide width height side → ⊥) → sideShort width height side ≡ true
   short f = must (sideShort width height side) (λ e. f (long-of e))
+
+  -- a side that is named twice
+  pub twice : sizeRefusal width height (side ∷ side ∷ []) ≡ sizeRefusal width height (side ∷ [])
+  unfolding sizeRefusal someSide
+  twice = rw (or-self-left (strideOutside width side) false, or-self-left (sideShort width height side) false)

@@ -3,12 +3,12 @@ use mathlib.Core.Path.{_≡_, refl, sym, _∙_}
 use mathlib.Core.Bool.{Bool, true, false, true≢false, _||_}
 use mathlib.Core.List.{List, [], _∷_}
 use mathlib.Core.Logic.{_↔_}
-use Prim.Native.Nat.{ℕ, _+_, _*_, _-_, _≤_, _<_}
+use Prim.Native.Nat.{ℕ}
 use native.Mathlib.Omega.{arith}
-use Rattle.refusal.specs.Table.{row, first}
-use Rattle.sample.proofs.Picks.{must, neither}
+use Rattle.refusal.specs.Table.{first}
+use Rattle.sample.proofs.Picks.{neither}
 use Rattle.plane.specs.declared.size.Side.{Side}
-use Rattle.plane.specs.Sizes.{mostSize, mostStride, outside, pictureOutside, strideOutside, needed, sideShort, someSide, sizeRefusal, Within, Sized, Long, ServedSide, EverySide, SizesServed, PlanesLong}
+use Rattle.plane.specs.Sizes.{mostSize, outside, pictureOutside, strideOutside, sideShort, someSide, sizeRefusal, Within, StrideWithin, ServedSide, EverySide, SizesServed, PlanesLong}
 use Rattle.plane.proofs.SizeLaws.{within-of, within-not-outside, long-of, not-short}
 
 -- no side answers yes to a test exactly where each side has the fact
@@ -26,27 +26,11 @@ unfolding someSide
 all-pass test fact f [] e = refl
 all-pass test fact f (s ∷ ss) e = rw (f s (e .0), all-pass test fact f ss (e .1))
 
--- which of the two rows gave a number
-rows : Bool → Bool → ℕ
-rows a b = first (row 8 a ∷ row 9 b ∷ [])
-
-rows-8 : (a b : Bool) → rows a b ≡ 8 → a ≡ true
-unfolding rows first
-rows-8 true b e = refl
-rows-8 false true e = absurd (omega arith)
-rows-8 false false e = absurd (omega arith)
-
-rows-9 : (a b : Bool) → rows a b ≡ 9 → (a ≡ false) × (b ≡ true)
-unfolding rows first
-rows-9 true b e = absurd (omega arith)
-rows-9 false true e = (refl, refl)
-rows-9 false false e = absurd (omega arith)
-
-rows-0 : (a b : Bool) → rows a b ≡ 0 → (a ≡ false) × (b ≡ false)
-unfolding rows first
-rows-0 true b e = absurd (omega arith)
-rows-0 false true e = absurd (omega arith)
-rows-0 false false e = (refl, refl)
+-- two rows go in one of three ways
+by-tests : (a b : Bool) (P : Type 0) → (a ≡ true → P) → (a ≡ false → b ≡ true → P) → (a ≡ false → b ≡ false → P) → P
+by-tests true b P x y z = x refl
+by-tests false true P x y z = y refl refl
+by-tests false false P x y z = z refl refl
 
 -- a test that holds and does not
 both-ways : (b : Bool) → b ≡ true → b ≡ false → ⊥
@@ -85,30 +69,42 @@ module _ (width height : ℕ) (sides : List Side) where
   not-nine : PlanesLong width height sides → nine ≡ false
   not-nine k = all-pass _ _ (not-short width height) sides k
 
+  -- each of the three answers, with what holds where it is given
+  by-answer : (P : Type 0)
+      → ((SizesServed width height sides → ⊥) → sizeRefusal width height sides ≡ 8 → P)
+      → (SizesServed width height sides → (PlanesLong width height sides → ⊥) → sizeRefusal width height sides ≡ 9 → P)
+      → (SizesServed width height sides → PlanesLong width height sides → sizeRefusal width height sides ≡ 0 → P) → P
+  unfolding sizeRefusal first
+  by-answer P x y z =
+      by-tests eight nine P
+      (λ e. x (λ k. both-ways eight e (not-eight k)) (rw e))
+      (λ e f. y (sizes-of e) (λ k. both-ways nine f (not-nine k)) (rw (e, f)))
+      (λ e f. z (sizes-of e) (planes-of f) (rw (e, f)))
+
   -- row 8 applies exactly where the sizes are not served
   pub refused-8 : (sizeRefusal width height sides ≡ 8) ↔ (SizesServed width height sides → ⊥)
-  unfolding sizeRefusal first rows
-  refused-8 = (λ e k. both-ways eight (rows-8 eight nine e) (not-eight k), λ f. rw (must eight (λ e. f (sizes-of e))))
+  refused-8 = (
+    λ e. by-answer _ (λ f q. f) (λ s f q. absurd (omega arith)) (λ s l q. absurd (omega arith)),
+    λ f. by-answer _ (λ g q. q) (λ s g q. absurd (f s)) (λ s l q. absurd (f s)),
+  )
 
   -- row 9 exactly where they are and some plane is short
   pub refused-9 : (sizeRefusal width height sides ≡ 9) ↔ (SizesServed width height sides × (PlanesLong width height sides → ⊥))
-  unfolding sizeRefusal first rows
   refused-9 = (
-    λ e. let t = rows-9 eight nine e in (sizes-of (t .0), λ k. both-ways nine (t .1) (not-nine k)),
-    λ k. rw (not-eight (k .0), must nine (λ e. k .1 (planes-of e))),
+    λ e. by-answer _ (λ f q. absurd (omega arith)) (λ s f q. (s, f)) (λ s l q. absurd (omega arith)),
+    λ k. by-answer _ (λ f q. absurd (f (k .0))) (λ s f q. q) (λ s l q. absurd (k .1 l)),
   )
 
   -- and neither exactly where the sizes are served and every plane is long enough
   pub refused-0 : (sizeRefusal width height sides ≡ 0) ↔ (SizesServed width height sides × PlanesLong width height sides)
-  unfolding sizeRefusal first rows
   refused-0 = (
-    λ e. let t = rows-0 eight nine e in (sizes-of (t .0), planes-of (t .1)),
-    λ k. rw (not-eight (k .0), not-nine (k .1)),
+    λ e. by-answer _ (λ f q. absurd (omega arith)) (λ s f q. absurd (omega arith)) (λ s l q. (s, l)),
+    λ k. by-answer _ (λ f q. absurd (f (k .0))) (λ s f q. absurd (f (k .1))) (λ s l q. q),
   )
 
 -- what each side then has
 each-side : (width height : ℕ) → Within width 1 mostSize → Within height 1 mostSize → (sides : List Side)
-    → EverySide (λ s. Within (s .stride) width mostStride) sides → PlanesLong width height sides → EverySide (ServedSide width height) sides
+    → EverySide (StrideWithin width) sides → PlanesLong width height sides → EverySide (ServedSide width height) sides
 each-side width height w h [] a b = tt
 each-side width height w h (s ∷ ss) a b = (
   record { sized = record { width-within = w; height-within = h; stride-within = a .0 }; long = b .0 },

@@ -3,12 +3,12 @@ use mathlib.Core.Path.{_≡_, refl, sym, ap, _∙_}
 use mathlib.Core.List.{List, [], _∷_, _++_, append-assoc, append-nil}
 use mathlib.Core.Logic.{_⊎_, inl, inr, ⊎-elim}
 use Prim.Native.Nat.{ℕ, zero, suc, _+_, _-_, _≤_, _<_}
-use native.Mathlib.Nat.{add-zero, add-suc, sub-self, eq-or-lt-of-le, le-of-suc-le-suc, not-suc-le-zero}
+use native.Mathlib.Nat.{add-zero, add-suc, eq-or-lt-of-le, le-of-suc-le-suc, not-suc-le-zero}
 use native.Mathlib.Numerals.{add-one}
 use native.Mathlib.Omega.{arith}
 use lib.ListN.{length, getD, take, drop, set, length-append, length-set, length-take, length-drop, List·getD-append}
 use lib.Seq.{take-suc-set, take-all, take-at, getD-at, getD-take, getD-drop}
-use Rattle.plane.specs.Plane.{tab, zeros, patched}
+use Rattle.plane.specs.Plane.{tab, patched}
 
 -- a number is below another or not
 pub below-or-not : (a b : ℕ) → (a < b) ⊎ (b ≤ a)

@@ -1,8 +1,8 @@
 -- Refusals 8 and 9. A width or a height is a number from 1 to 8192, and a stride one from the width to 16,384: these limits stand here alone.
 use mathlib.Core.Path.{_≡_}
-use mathlib.Core.Bool.{Bool, true, false, _||_}
+use mathlib.Core.Bool.{Bool, false, _||_}
 use mathlib.Core.List.{List, [], _∷_}
-use Prim.Native.Nat.{ℕ, _+_, _*_, _-_, _≤_, _<_}
+use Prim.Native.Nat.{ℕ, _+_, _*_, _-_, _≤_}
 use lib.Dec.{ltb}
 use Rattle.refusal.specs.Table.{row, first}
 use Rattle.plane.specs.declared.size.Side.{Side}
@@ -12,6 +12,10 @@ mostSize = 8192
 
 abbrev pub mostStride : ℕ
 mostStride = 16384
+
+-- a side, by its stride and how many elements its planes have
+abbrev pub sideOf : ℕ → ℕ → ℕ → ℕ → Side
+sideOf stride n0 n1 n2 = record { stride = stride; n0 = n0; n1 = n1; n2 = n2 }
 
 -- whether n is below least or above most
 unfoldable pub outside : ℕ → ℕ → ℕ → Bool
@@ -34,11 +38,13 @@ strideOutside width side = outside (side .stride) width mostStride
 abbrev pub needed : ℕ → ℕ → ℕ → ℕ
 needed width height stride = (height - 1) * stride + width
 
--- a plane is shorter than that
+-- one of three planes has fewer elements
+unfoldable pub anyShort : ℕ → ℕ → ℕ → ℕ → Bool
+anyShort need n0 n1 n2 = ltb n0 need || (ltb n1 need || ltb n2 need)
+
+-- a plane of the side is shorter than (height - 1) × stride + width
 unfoldable pub sideShort : ℕ → ℕ → Side → Bool
-sideShort width height side =
-    ltb (side .n0) (needed width height (side .stride))
-    || (ltb (side .n1) (needed width height (side .stride)) || ltb (side .n2) (needed width height (side .stride)))
+sideShort width height side = anyShort (needed width height (side .stride)) (side .n0) (side .n1) (side .n2)
 
 -- rows 8 and 9 of the refusals, for the sides that a call has
 unfoldable pub sizeRefusal : ℕ → ℕ → List Side → ℕ
@@ -53,38 +59,44 @@ pub record Within (n least most : ℕ) : Type 0 where
   pub from-least : least ≤ n
   pub to-most : n ≤ most
 
--- the sizes at which a plane is served
-pub record Sized (width height stride : ℕ) : Type 0 where
-  pub width-within : Within width 1 mostSize
-  pub height-within : Within height 1 mostSize
-  pub stride-within : Within stride width mostStride
-
 -- three planes of at least need elements
 pub record Long (need n0 n1 n2 : ℕ) : Type 0 where
   pub long0 : need ≤ n0
   pub long1 : need ≤ n1
   pub long2 : need ≤ n2
 
--- a side that neither row refuses
-pub record ServedSide (width height : ℕ) (side : Side) : Type 0 where
-  pub sized : Sized width height (side .stride)
-  pub long : Long (needed width height (side .stride)) (side .n0) (side .n1) (side .n2)
+-- the sizes at which a plane is served
+pub record Sized (width height stride : ℕ) : Type 0 where
+  pub width-within : Within width 1 mostSize
+  pub height-within : Within height 1 mostSize
+  pub stride-within : Within stride width mostStride
+
+-- the facts of a side that the two rows test
+abbrev pub StrideWithin : ℕ → Side → Type 0
+StrideWithin width side = Within (side .stride) width mostStride
+
+abbrev pub LongSide : ℕ → ℕ → Side → Type 0
+LongSide width height side = Long (needed width height (side .stride)) (side .n0) (side .n1) (side .n2)
 
 -- a fact of every side
 abbrev pub EverySide : (Side → Type 0) → List Side → Type 0
 EverySide fact [] = Unit
 EverySide fact (s ∷ ss) = fact s × EverySide fact ss
 
--- what row 8 tests, as a fact
+-- row 8 does not apply
 pub record SizesServed (width height : ℕ) (sides : List Side) : Type 0 where
   pub width-within : Within width 1 mostSize
   pub height-within : Within height 1 mostSize
-  pub strides-within : EverySide (λ s. Within (s .stride) width mostStride) sides
+  pub strides-within : EverySide (StrideWithin width) sides
 
--- what row 9 tests, as a fact
+-- row 9 does not apply
 abbrev pub PlanesLong : ℕ → ℕ → List Side → Type 0
-PlanesLong width height sides =
-    EverySide (λ s. Long (needed width height (s .stride)) (s .n0) (s .n1) (s .n2)) sides
+PlanesLong width height sides = EverySide (LongSide width height) sides
+
+-- what is known of a side that was not refused
+pub record ServedSide (width height : ℕ) (side : Side) : Type 0 where
+  pub sized : Sized width height (side .stride)
+  pub long : LongSide width height side
 
 -- where row j starts: not after the last row, and far below the largest index
 pub record RowStart (j stride height r : ℕ) : Type 0 where

@@ -41,6 +41,7 @@ fn outside(n: usize, least: usize, most: usize) -> bool
     false
 }
 
+// Whether the width or the height is outside 1..8192.
 fn picture_outside(width: usize, height: usize) -> bool
     ensures { λ r. ⌜ r ≡ pictureOutside width height ⌝ }
 {
@@ -72,23 +73,6 @@ fn side_short(width: usize, height: usize, side: Side) -> bool
     false
 }
 
-// Refusal 8 or 9 of a call that has one side, or 0.
-pub fn size_refusal_one(width: usize, height: usize, side: Side) -> u8
-    ensures { λ r. ⌜ r ≡ sizeRefusal width height (side ∷ []) ⌝ }
-{
-    let stride = side.stride;
-    if picture_outside(width, height) {
-        return Refusal::SIZE_OUTSIDE;
-    }
-    if outside(stride, width, MOST_STRIDE) {
-        return Refusal::SIZE_OUTSIDE;
-    }
-    if side_short(width, height, side) {
-        return Refusal::PLANE_SHORT;
-    }
-    0
-}
-
 // Refusal 8 or 9 of a call that has two sides, or 0.
 pub fn size_refusal_two(width: usize, height: usize, a: Side, b: Side) -> u8
     ensures { λ r. ⌜ r ≡ sizeRefusal width height (a ∷ b ∷ []) ⌝ }
@@ -111,4 +95,11 @@ pub fn size_refusal_two(width: usize, height: usize, a: Side, b: Side) -> u8
         return Refusal::PLANE_SHORT;
     }
     0
+}
+
+// Refusal 8 or 9 of a call that has one side, or 0: to name the side twice changes nothing.
+pub fn size_refusal_one(width: usize, height: usize, side: Side) -> u8
+    ensures { λ r. ⌜ r ≡ sizeRefusal width height (side ∷ []) ⌝ }
+{
+    size_refusal_two(width, height, side, side)
 }

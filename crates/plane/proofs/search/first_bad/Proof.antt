@@ -1,11 +1,11 @@
 -- `plane::search::first_bad` meets its contract: nothing was found in the rows passed, nor in the columns of the row at hand.
 use mathlib.Core.Path.{_≡_, refl, sym, _∙_}
-use Prim.Native.Nat.{ℕ, _≤_, _-_}
+use Prim.Native.Nat.{_≤_, _-_}
 use native.Mathlib.Omega.{arith}
 use borrow.Author.Needs.{needs}
 use Rattle.plane.specs.First.{firstOf, badHere, badInRow, firstBad}
-use Rattle.plane.specs.declared.search.Found.the-variants.{At, Nothing}
-use Rattle.plane.proofs.Searches.{none-more, none-all, here, bad, fine, row-fine}
+use Rattle.plane.specs.declared.search.Found.the-variants.{Nothing}
+use Rattle.plane.proofs.Searches.{none-more, none-all, first-here, sample-bad, sample-fine, row-fine}
 use Rattle.plane.proofs.search.first_bad.Statement.{statement}
 use Rattle.plane.proofs.search.first_bad.Tie as tie
 
@@ -89,7 +89,7 @@ loop-less c = search needs
 loop-again : tie.Need-loop-again Inv-loop μ-loop Inv-rows μ-rows
 loop-again c =
     let l = c .before .before .before .loop in
-    let none = fine _ _ _ _ _ _ (c .before .before .before .before .before .before .before .row-start .ensures .is) (l .i) (c .if2 .left) in
+    let none = sample-fine _ _ _ _ _ _ (c .before .before .before .before .before .before .before .row-start .ensures .is) (l .i) (c .if2 .left) in
     (omega arith, (l .inv .1 .0, none-more _ (l .i) (l .inv .1 .1) none))
 
 add-j-2 : tie.Need-add-j-2 Inv-loop μ-loop Inv-rows μ-rows
@@ -116,10 +116,10 @@ unfolding firstBad badInRow
 returns-2 c =
     let r = c .before .before .before .before .before .before .before .before .before .rows in
     let l = c .before .before .before .loop in
-    let found = bad _ _ _ _ _ _ (c .before .before .before .before .before .before .before .row-start .ensures .is) (l .i) (c .if2 .taken) in
+    let found = sample-bad _ _ _ _ _ _ (c .before .before .before .before .before .before .before .row-start .ensures .is) (l .i) (c .if2 .taken) in
     sym
-    (here _ _ (r .j) _ (omega arith) (r .inv .1 .1)
-    (here _ _ (l .i) _ (omega arith) (l .inv .1 .1) found))
+    (first-here _ _ (r .j) _ (omega arith) (r .inv .1 .1)
+    (first-here _ _ (l .i) _ (omega arith) (l .inv .1 .1) found))
 
 pub first-bad-spec : {M : Type 1} → statement M
 first-bad-spec =

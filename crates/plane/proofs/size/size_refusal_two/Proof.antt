@@ -1,9 +1,9 @@
 -- `plane::size::size_refusal_two` meets its contract: each test of the code is one of the definition's, in its order.
 use mathlib.Core.Path.{_≡_, sym, _∙_}
-use mathlib.Core.Bool.{Bool, false}
+use mathlib.Core.Bool.{false}
 use borrow.Author.Needs.{needs}
 use Rattle.refusal.specs.Table.{first}
-use Rattle.plane.specs.Sizes.{mostStride, outside, pictureOutside, sideShort, someSide, sizeRefusal}
+use Rattle.plane.specs.Sizes.{mostStride, outside, pictureOutside, someSide, sizeRefusal}
 use Rattle.plane.proofs.SizeLaws.{sized-of}
 use Rattle.plane.proofs.size.size_refusal_two.Statement.{statement}
 use Rattle.plane.proofs.size.size_refusal_two.Tie as tie
