@@ -1,0 +1,2 @@
+-- Laws of pixels.
+pub mod Facts

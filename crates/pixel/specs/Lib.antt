@@ -1,0 +1,3 @@
+-- One pixel, both ways.
+pub mod Pixel
+pub mod Ready
