@@ -1,2 +1,4 @@
 -- Laws of pixels.
 pub mod Facts
+pub mod ReadyLaws
+pub mod PixelTheorems

@@ -1,3 +1,4 @@
 -- One pixel, both ways.
 pub mod Pixel
 pub mod Ready
+pub mod Source

@@ -5,6 +5,7 @@ ghost use Rattle.ycgco.specs.YCgCo.{Plain, Roomy};
 ghost use Rattle.levels.specs.Luma.{LumaServed, SamplesServed};
 ghost use Rattle.pixel.specs.Pixel.{swap, lossy, lossless, luma, lines, ycgco8, preparedFor, convert, InsideSource};
 ghost use Rattle.pixel.specs.Ready.{DepthsOf8, Ready};
+ghost use Rattle.pixel.specs.Source.{samePixel, hasSource};
 use levels::Lines;
 use levels::LumaSetting;
 use sample::Depths;
@@ -162,4 +163,26 @@ pub fn convert(way: Way, s: Served, prepared: Prepared, p: Pixel) -> Pixel
         Family::YCgCo => ycgco_by_depth(way, depths, p),
         Family::YCgCoR(_) => lossless(way, depths, p),
     }
+}
+
+fn is_same(p: Pixel, q: Pixel) -> bool
+    ensures { λ r. ⌜ r ≡ samePixel p q ⌝ }
+{
+    if p.p0 == q.p0 {
+        if p.p1 == q.p1 {
+            return p.p2 == q.p2;
+        }
+    }
+    false
+}
+
+// Whether some RGB pixel within depth converts to p: converted back and forward again, p is the same.
+pub fn has_source(s: Served, p: Pixel) -> bool
+    requires { ⌜ Ready s ⌝ }
+    requires { ⌜ InsideYCC (s .depths) p ⌝ }
+    ensures { λ r. ⌜ r ≡ hasSource s p ⌝ }
+{
+    let back = convert(Way::Reverse, s, prepare(Way::Reverse, s), p);
+    let forth = convert(Way::Forward, s, prepare(Way::Forward, s), back);
+    is_same(forth, p)
 }
