@@ -38,8 +38,10 @@ pub fn level(v: u16, s: Scale) -> f32
 {
     let plus = s.plus;
     let times = s.times;
-    let numerator = v as i32 - plus as i32;
-    (numerator as f32) / (times as f32)
+    let above = v as i32 - plus as i32;
+    let numerator = above as f32;
+    let denominator = times as f32;
+    numerator / denominator
 }
 
 fn scale_of(kind: SampleKind, full: bool, luma: LumaDepth, chroma: ChromaDepth) -> Scale

@@ -17,28 +17,28 @@ v-is s = reads-back w32 {z = pos (s .args .v)} (search parts) (omega arith) (ome
 plus-is : (s : tie.Start) → toZ w32 (s .args .s .plus) ≡ pos (s .args .s .plus)
 plus-is s = reads-back w32 {z = pos (s .args .s .plus)} (search parts) (omega arith) (omega arith)
 
-numerator-is : (s : tie.Start) → toZ w32 (ofZ w32 (pos (s .args .v) -ℤ pos (s .args .s .plus))) ≡ pos (s .args .v) -ℤ pos (s .args .s .plus)
-numerator-is s = reads-back w32 (search parts) (omega arith) (omega arith)
+above-is : (s : tie.Start) → toZ w32 (ofZ w32 (pos (s .args .v) -ℤ pos (s .args .s .plus))) ≡ pos (s .args .v) -ℤ pos (s .args .s .plus)
+above-is s = reads-back w32 (search parts) (omega arith) (omega arith)
 
-cast-numerator : tie.Need-cast-numerator
-cast-numerator c = search needs
+cast-above : tie.Need-cast-above
+cast-above c = search needs
 
-cast-numerator-2 : tie.Need-cast-numerator-2
-cast-numerator-2 c = search needs
+cast-above-2 : tie.Need-cast-above-2
+cast-above-2 c = search needs
 
-sub-numerator : tie.Need-sub-numerator
-sub-numerator c = simp (v-is c, plus-is c) (signed-fits (search parts) (omega arith) (omega arith))
+sub-above : tie.Need-sub-above
+sub-above c = simp (v-is c, plus-is c) (signed-fits (search parts) (omega arith) (omega arith))
 
-int-to-float-result : tie.Need-int-to-float-result
-int-to-float-result c =
+int-to-float-numerator : tie.Need-int-to-float-numerator
+int-to-float-numerator c =
     let s = c .before in
-    simp (v-is s, plus-is s, numerator-is s) (in-float _ (numerator-size (s .args .v) (s .args .s) (omega arith) (s .pre)))
+    simp (v-is s, plus-is s, above-is s) (in-float _ (numerator-size (s .args .v) (s .args .s) (omega arith) (s .pre)))
 
-int-to-float-result-2 : tie.Need-int-to-float-result-2
-int-to-float-result-2 c = in-float (pos (c .before .before .args .s .times)) (omega arith)
+int-to-float-denominator : tie.Need-int-to-float-denominator
+int-to-float-denominator c = in-float (pos (c .before .before .args .s .times)) (omega arith)
 
 returns : tie.Need-returns
-returns c = let s = c .before .before in simp (v-is s, plus-is s, numerator-is s)
+returns c = let s = c .before .before in simp (v-is s, plus-is s, above-is s)
 
 pub level-spec : {M : Type 1} → statement M
-level-spec = tie.close (tie.spec cast-numerator cast-numerator-2 sub-numerator int-to-float-result int-to-float-result-2 returns)
+level-spec = tie.close (tie.spec cast-above cast-above-2 sub-above int-to-float-numerator int-to-float-denominator returns)
