@@ -40,7 +40,7 @@ module _ (d : ℕ) (h : LumaMatrixDepth d) where
   light-served true = let p = powers d mostLumaMatrixDepth (h .least) (h .most) in omega arith
   light-served false = let p = powers d mostLumaMatrixDepth (h .least) (h .most) in omega arith
 
-  pub light-target-served : (f : Bool) → TargetServed 256 (targetOf f (lightScale f d) (M d))
+  pub light-target-served : (f : Bool) → TargetServed 256 (targetOf f (lightScale f d) d)
   light-target-served true = let p = powers d mostLumaMatrixDepth (h .least) (h .most) in omega arith
   light-target-served false = let p = powers d mostLumaMatrixDepth (h .least) (h .most) in omega arith
 
@@ -49,7 +49,7 @@ module _ (d : ChromaDepth) (h : LumaMatrixDepth (d .0)) where
   colour-served true = let p = powers (d .0) mostLumaMatrixDepth (h .least) (h .most) in omega arith
   colour-served false = let p = powers (d .0) mostLumaMatrixDepth (h .least) (h .most) in omega arith
 
-  pub colour-target-served : (f : Bool) → TargetServed 2048 (targetOf f (chromaScale f d) (M (d .0)))
+  pub colour-target-served : (f : Bool) → TargetServed 2048 (targetOf f (chromaScale f d) (d .0))
   colour-target-served true = let p = powers (d .0) mostLumaMatrixDepth (h .least) (h .most) in omega arith
   colour-target-served false = let p = powers (d .0) mostLumaMatrixDepth (h .least) (h .most) in omega arith
 

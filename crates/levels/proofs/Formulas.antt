@@ -6,7 +6,7 @@ use native.Mathlib.Omega.{arith}
 use lib.IntN.{ℤ, pos, natAbs, _+ℤ_, _-ℤ_, _*ℤ_}
 use Rattle.whole.proofs.Difference.{Parts, parts, parts-of}
 use Rattle.whole.proofs.Closers.{same, absolute}
-use Rattle.fraction.specs.Fraction.{Frac, _⊖_, _⊗_, part, whole}
+use Rattle.fraction.specs.Fraction.{Frac, _⊖_, _⊗_, _÷_, part, whole}
 use Rattle.fraction.proofs.Value.{Value, ⊕-value, ⊖-value, ⊗-value, ÷-value, lift, rename}
 use Rattle.levels.specs.Paper.{KG, EY, EPB, EPR, ER, EG, EB}
 use Rattle.levels.specs.Luma.{Shares}
@@ -14,26 +14,45 @@ use Rattle.levels.specs.Rows.{sumOf, rowY, rowPB, rowPR, rowR, rowG, row
 use Rattle.levels.specs.declared.Weights.{Weights}
 use Rattle.levels.specs.declared.rows.Row.{Row}
 
--- 2(1 - K), for a weight K of k parts that leaves j of n
-abbrev twice : ℕ → ℕ → Frac
+-- 2(1 - K), for a weight K of k parts that leaves j of n: to multiply by it, and to divide a difference by it
+abbrev pub twice : ℕ → ℕ → Frac
 twice k n = whole 2 ⊗ (whole 1 ⊖ part (pos k) n)
 
-module _ (k j n : ℕ) (e : k + j ≡ n) where
+module _ (k j n : ℕ) (e : k + j ≡ n) (some : 0 < n) where
   twice-size : natAbs (twice k n .num) ≡ 2 * j
   twice-size = let r : Parts (twice k n .num) = search parts in omega (arith, absolute r (omega arith))
 
-  twice-over : natAbs (twice k n .num) * n ≡ 2 * j * twice k n .den
-  twice-over = rw twice-size (omega arith)
-
-  twice-some : 0 < j → 0 < natAbs (twice k n .num)
-  twice-some h = rw twice-size (omega arith)
-
-  twice-value : {x : Frac} {z : ℤ} {D : ℕ} → 0 < n → Value x z D → Value (twice k n ⊗ x) (pos (2 * j) *ℤ z) (n * D)
-  twice-value {x} {z} {D} h v =
+  times-twice : {x : Frac} {z : ℤ} {D : ℕ} → Value x z D → Value (twice k n ⊗ x) (pos (2 * j) *ℤ z) (n * D)
+  times-twice {x} {z} {D} v =
       rename
       (ap (λ m. m *ℤ z) (same {x = twice k n .num} {y = pos (2 * j)} (search parts) (search parts) (omega arith)))
       (ap (λ m. m * D) (one-mul _ ∙ one-mul n))
       (⊗-value (twice k n .num) (twice k n .den) (omega arith) v)
+
+  pub over-twice : {x y : Frac} {z w : ℤ} (D : ℕ) → 0 < j → Value x z (n * D) → Value y w (n * D)
+      → Value ((x ⊖ y) ÷ twice k n) (z -ℤ w) (2 * j * D)
+  over-twice D h u v =
+      ÷-value (twice k n) D n (2 * j) some (rw twice-size (omega arith)) (⊖-value u v) (rw twice-size (omega arith))
+
+module _ (k : Weights) (h : Shares k) where
+  pub all-some : 0 < k .all
+  all-some = omega arith
+
+  pub all-but-blue : k .kb + (k .kr + k .kg) ≡ k .all
+  all-but-blue = omega arith
+
+  pub all-but-red : k .kr + (k .kg + k .kb) ≡ k .all
+  all-but-red = omega arith
+
+-- The sums as they are printed: EY of ER, EG, EB; ER and EB of EY with EPR or EPB.
+abbrev pub sumY : Weights → ℤ → ℤ → ℤ → ℤ
+sumY k u v w = pos (k .kr) *ℤ u +ℤ pos (k .kg) *ℤ v +ℤ pos (k .kb) *ℤ w
+
+abbrev pub sumR : Weights → ℤ → ℤ → ℤ
+sumR k u w = pos (k .all) *ℤ u +ℤ pos (2 * (k .kg + k .kb)) *ℤ w
+
+abbrev pub sumB : Weights → ℤ → ℤ → ℤ
+sumB k u v = pos (k .all) *ℤ u +ℤ pos (2 * (k .kr + k .kg)) *ℤ v
 
 green-numbers : (n kr kg kb ua ub va vb wa wb : ℕ) → kr + kg + kb ≡ n
     → n * (n * ua) + kr * (n * ub + 2 * (kg + kb) * wb) + kb * (n * ub + 2 * (kr + kg) * vb)
@@ -43,31 +62,18 @@ green-numbers : (n kr kg kb ua ub va vb wa wb : ℕ) → kr + kg + kb ≡ n
 green-numbers n kr kg kb ua ub va vb wa wb e = omega (arith, ap (λ m. m * (n * ua)) e, ap (λ m. m * (n * ub)) e)
 
 module _ (k : Weights) (h : Shares k) {x y z : Frac} {u v w : ℤ} {D : ℕ} (hx : Value x u D) (hy : Value y v D) (hz : Value z w D) where
-  some : 0 < k .all
-  some = omega arith
-
-  without-blue : k .kb + (k .kr + k .kg) ≡ k .all
-  without-blue = omega arith
-
-  without-red : k .kr + (k .kg + k .kb) ≡ k .all
-  without-red = omega arith
-
-  -- EY, as the sum that it is printed as
-  abbrev sum-y : ℤ
-  sum-y = pos (k .kr) *ℤ u +ℤ pos (k .kg) *ℤ v +ℤ pos (k .kb) *ℤ w
-
-  pub printed-y : Value (EY k x y z) sum-y (k .all * D)
+  pub printed-y : Value (EY k x y z) (sumY k u v w) (k .all * D)
   printed-y =
       ⊕-value
-      (⊕-value (⊗-value (pos (k .kr)) (k .all) some hx) (⊗-value (pos (k .kg)) (k .all) some hy))
-      (⊗-value (pos (k .kb)) (k .all) some hz)
+      (⊕-value (⊗-value (pos (k .kr)) (k .all) (all-some k h) hx) (⊗-value (pos (k .kg)) (k .all) (all-some k h) hy))
+      (⊗-value (pos (k .kb)) (k .all) (all-some k h) hz)
 
   pub y-value : Value (EY k x y z) (sumOf (rowY k) u v w) (rowY k .over * D)
   y-value =
       let p = parts-of u in
       let q = parts-of v in
       let r = parts-of w in
-      rename (same {x = sum-y} {y = sumOf (rowY k) u v w} (search parts) (search parts depth 10) (omega arith)) refl printed-y
+      rename (same {x = sumY k u v w} {y = sumOf (rowY k) u v w} (search parts) (search parts depth 10) (omega arith)) refl printed-y
 
   pub pb-value : Value (EPB k x y z) (sumOf (rowPB k) u v w) (rowPB k .over * D)
   pb-value =
@@ -75,13 +81,10 @@ module _ (k : Weights) (h : Shares k) {x y z : Frac} {u v w : ℤ} {D : ℕ} (hx
       let q = parts-of v in
       let r = parts-of w in
       rename
-      (same {x = pos (k .all) *ℤ w -ℤ sum-y} {y = sumOf (rowPB k) u v w} (search parts depth 10) (search parts depth 10)
+      (same {x = pos (k .all) *ℤ w -ℤ sumY k u v w} {y = sumOf (rowPB k) u v w} (search parts depth 10) (search parts depth 10)
       (omega (arith, ap (λ m. m * r .plus) (h .sum), ap (λ m. m * r .minus) (h .sum))))
       refl
-      (÷-value (twice (k .kb) (k .all)) D (k .all) (2 * (k .kr + k .kg)) some
-      (twice-some (k .kb) (k .kr + k .kg) (k .all) without-blue (omega arith))
-      (⊖-value (lift (k .all) hz) printed-y)
-      (twice-over (k .kb) (k .kr + k .kg) (k .all) without-blue))
+      (over-twice (k .kb) (k .kr + k .kg) (k .all) (all-but-blue k h) (all-some k h) D (omega arith) (lift (k .all) hz) printed-y)
 
   pub pr-value : Value (EPR k x y z) (sumOf (rowPR k) u v w) (rowPR k .over * D)
   pr-value =
@@ -89,40 +92,31 @@ module _ (k : Weights) (h : Shares k) {x y z : Frac} {u v w : ℤ} {D : ℕ} (hx
       let q = parts-of v in
       let r = parts-of w in
       rename
-      (same {x = pos (k .all) *ℤ u -ℤ sum-y} {y = sumOf (rowPR k) u v w} (search parts depth 10) (search parts depth 10)
+      (same {x = pos (k .all) *ℤ u -ℤ sumY k u v w} {y = sumOf (rowPR k) u v w} (search parts depth 10) (search parts depth 10)
       (omega (arith, ap (λ m. m * p .plus) (h .sum), ap (λ m. m * p .minus) (h .sum))))
       refl
-      (÷-value (twice (k .kr) (k .all)) D (k .all) (2 * (k .kg + k .kb)) some
-      (twice-some (k .kr) (k .kg + k .kb) (k .all) without-red (omega arith))
-      (⊖-value (lift (k .all) hx) printed-y)
-      (twice-over (k .kr) (k .kg + k .kb) (k .all) without-red))
+      (over-twice (k .kr) (k .kg + k .kb) (k .all) (all-but-red k h) (all-some k h) D (omega arith) (lift (k .all) hx) printed-y)
 
   -- The reverse, where x, y and z stand for EY, EPB and EPR.
-  abbrev sum-r : ℤ
-  sum-r = pos (k .all) *ℤ u +ℤ pos (2 * (k .kg + k .kb)) *ℤ w
+  pub printed-r : Value (ER k x y z) (sumR k u w) (k .all * D)
+  printed-r = ⊕-value (lift (k .all) hx) (times-twice (k .kr) (k .kg + k .kb) (k .all) (all-but-red k h) (all-some k h) hz)
 
-  abbrev sum-b : ℤ
-  sum-b = pos (k .all) *ℤ u +ℤ pos (2 * (k .kr + k .kg)) *ℤ v
-
-  pub printed-r : Value (ER k x y z) sum-r (k .all * D)
-  printed-r = ⊕-value (lift (k .all) hx) (twice-value (k .kr) (k .kg + k .kb) (k .all) without-red some hz)
-
-  pub printed-b : Value (EB k x y z) sum-b (k .all * D)
-  printed-b = ⊕-value (lift (k .all) hx) (twice-value (k .kb) (k .kr + k .kg) (k .all) without-blue some hy)
+  pub printed-b : Value (EB k x y z) (sumB k u v) (k .all * D)
+  printed-b = ⊕-value (lift (k .all) hx) (times-twice (k .kb) (k .kr + k .kg) (k .all) (all-but-blue k h) (all-some k h) hy)
 
   pub r-value : Value (ER k x y z) (sumOf (rowR k) u v w) (rowR k .over * D)
   r-value =
       let p = parts-of u in
       let q = parts-of v in
       let r = parts-of w in
-      rename (same {x = sum-r} {y = sumOf (rowR k) u v w} (search parts depth 10) (search parts depth 10) (omega arith)) refl printed-r
+      rename (same {x = sumR k u w} {y = sumOf (rowR k) u v w} (search parts depth 10) (search parts depth 10) (omega arith)) refl printed-r
 
   pub b-value : Value (EB k x y z) (sumOf (rowB k) u v w) (rowB k .over * D)
   b-value =
       let p = parts-of u in
       let q = parts-of v in
       let r = parts-of w in
-      rename (same {x = sum-b} {y = sumOf (rowB k) u v w} (search parts depth 10) (search parts depth 10) (omega arith)) refl printed-b
+      rename (same {x = sumB k u v} {y = sumOf (rowB k) u v w} (search parts depth 10) (search parts depth 10) (omega arith)) refl printed-b
 
   pub g-value : Value (EG k x y z) (sumOf (rowG k) u v w) (rowG k .over * D)
   g-value =
@@ -130,12 +124,12 @@ module _ (k : Weights) (h : Shares k) {x y z : Frac} {u v w : ℤ} {D : ℕ} (hx
       let q = parts-of v in
       let r = parts-of w in
       rename
-      (same {x = pos (k .all) *ℤ (pos (k .all) *ℤ u) -ℤ pos (k .kr) *ℤ sum-r -ℤ pos (k .kb) *ℤ sum-b} {y = sumOf (rowG k) u v w}
+      (same {x = pos (k .all) *ℤ (pos (k .all) *ℤ u) -ℤ pos (k .kr) *ℤ sumR k u w -ℤ pos (k .kb) *ℤ sumB k u v} {y = sumOf (rowG k) u v w}
       (search parts depth 14) (search parts depth 10)
       (green-numbers (k .all) (k .kr) (k .kg) (k .kb) (p .plus) (p .minus) (q .plus) (q .minus) (r .plus) (r .minus) (h .sum)))
       (omega arith)
-      (÷-value (KG k) (k .all * D) (k .all) (k .kg) some (h .green)
+      (÷-value (KG k) (k .all * D) (k .all) (k .kg) (all-some k h) (h .green)
       (⊖-value
-      (⊖-value (lift (k .all) (lift (k .all) hx)) (⊗-value (pos (k .kr)) (k .all) some printed-r))
-      (⊗-value (pos (k .kb)) (k .all) some printed-b))
+      (⊖-value (lift (k .all) (lift (k .all) hx)) (⊗-value (pos (k .kr)) (k .all) (all-some k h) printed-r))
+      (⊗-value (pos (k .kb)) (k .all) (all-some k h) printed-b))
       refl)

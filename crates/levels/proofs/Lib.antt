@@ -4,3 +4,4 @@ pub mod Writing
 pub mod Bounds
 pub mod Served
 pub mod Pixels
+pub mod Solves

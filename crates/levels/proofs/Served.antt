@@ -16,6 +16,9 @@ use Rattle.levels.proofs.Bounds.{light-served, light-target-served, col
 pub line-made : {v w : Row} {f g : Sources} {t u : Target} {l : Line} → v ≡ w → f ≡ g → t ≡ u → l ≡ lineOf v f t → l ≡ lineOf w g u
 line-made e p q r = r ∙ (λ i. lineOf (e i) (p i) (q i))
 
+pub line-served : {v w : Row} {f g : Sources} {t u : Target} → v ≡ w → f ≡ g → t ≡ u → LineServed w g u → LineServed v f t
+line-served e p q h = rw (e, p, q) h
+
 -- the three scales of a setting
 abbrev pub rgb : LumaSetting → Scale
 rgb s = rgbScale (s .«rgb_full») (s .depths .rgb)

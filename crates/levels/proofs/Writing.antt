@@ -57,11 +57,11 @@ module _ {e : Frac} {z : ℤ} {n : ℕ} (h : Value e z n) (n-some : 0 < n) where
       (⊗-value (pos s) 1 (omega arith) (⊕-value (rename refl (one-mul n) (⊗-value (pos m) 1 (omega arith) h)) (whole-value o))))
       n-some
 
-  written-law : (f : Bool) (d : ℕ) → written f d e ≡ wrote (targetOf f (lightScale f d) (M d)) z n
+  written-law : (f : Bool) (d : ℕ) → written f d e ≡ wrote (targetOf f (lightScale f d) d) z n
   written-law true d = ap (clip (M d)) (full (M d) ∙ sym (+ℤ-idr _))
   written-law false d = ap (clip (M d)) (narrow (S d) 219 16 ∙ sym (+ℤ-idr _))
 
-  written-chroma-law : (f : Bool) (d : ChromaDepth) → writtenChroma f d e ≡ wrote (targetOf f (chromaScale f d) (M (d .0))) z n
+  written-chroma-law : (f : Bool) (d : ChromaDepth) → writtenChroma f d e ≡ wrote (targetOf f (chromaScale f d) (d .0)) z n
   written-chroma-law true d = ap (λ x. clip (M (d .0)) (x +ℤ pos (H (d .0)))) (full (M (d .0)))
   written-chroma-law false d = ap (clip (M (d .0))) (narrow (S (d .0)) 224 128 ∙ sym (+ℤ-idr _))
 
@@ -93,8 +93,8 @@ sample-law w from to p =
 
 -- The two closing laws: where a level has a row's value, the row's line gives the sample that the level is written as.
 module _ (w : Row) (from : Sources) (p : Pixel) {e : Frac} (v : Value e (rowAt w from p) (w .over * from .common)) (some : 0 < w .over * from .common) where
-  pub light-sample : (f : Bool) (d : ℕ) → sampleOf (lineOf w from (targetOf f (lightScale f d) (M d))) p ≡ written f d e
-  light-sample f d = sample-law w from (targetOf f (lightScale f d) (M d)) p ∙ sym (written-law v some f d)
+  pub light-sample : (f : Bool) (d : ℕ) → sampleOf (lineOf w from (targetOf f (lightScale f d) d)) p ≡ written f d e
+  light-sample f d = sample-law w from (targetOf f (lightScale f d) d) p ∙ sym (written-law v some f d)
 
-  pub chroma-sample : (f : Bool) (d : ChromaDepth) → sampleOf (lineOf w from (targetOf f (chromaScale f d) (M (d .0)))) p ≡ writtenChroma f d e
-  chroma-sample f d = sample-law w from (targetOf f (chromaScale f d) (M (d .0))) p ∙ sym (written-chroma-law v some f d)
+  pub chroma-sample : (f : Bool) (d : ChromaDepth) → sampleOf (lineOf w from (targetOf f (chromaScale f d) (d .0))) p ≡ writtenChroma f d e
+  chroma-sample f d = sample-law w from (targetOf f (chromaScale f d) (d .0)) p ∙ sym (written-chroma-law v some f d)

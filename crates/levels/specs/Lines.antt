@@ -21,17 +21,17 @@ use Rattle.levels.specs.declared.prepared.Target.{Target}
 
 -- what a scale takes away is added again: after Round in full range, before it in narrow range
 abbrev pub targetOf : Bool → Scale → ℕ → Target
-targetOf true s top = record { times = s .times; plus = 0; mid = s .plus; top = top }
-targetOf false s top = record { times = s .times; plus = s .plus; mid = 0; top = top }
+targetOf true s d = record { times = s .times; plus = 0; mid = s .plus; top = M d }
+targetOf false s d = record { times = s .times; plus = s .plus; mid = 0; top = M d }
 
 abbrev pub rgbTarget : Bool → RgbDepth → Target
-rgbTarget full d = targetOf full (rgbScale full d) (M (d .0))
+rgbTarget full d = targetOf full (rgbScale full d) (d .0)
 
 abbrev pub lumaTarget : Bool → LumaDepth → Target
-lumaTarget full d = targetOf full (lumaScale full d) (M (d .0))
+lumaTarget full d = targetOf full (lumaScale full d) (d .0)
 
 abbrev pub chromaTarget : Bool → ChromaDepth → Target
-chromaTarget full d = targetOf full (chromaScale full d) (M (d .0))
+chromaTarget full d = targetOf full (chromaScale full d) (d .0)
 
 -- a level z / n, written
 abbrev pub wrote : Target → ℤ → ℕ → ℕ

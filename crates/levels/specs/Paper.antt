@@ -3,7 +3,7 @@ use mathlib.Core.Bool.{Bool, true, false}
 use Prim.Native.Nat.{ℕ, _*_, _-_, _^_}
 use lib.IntN.{pos, _+ℤ_, _-ℤ_}
 use Rattle.whole.specs.Whole.{Clip}
-use Rattle.fraction.specs.Fraction.{Frac, _⊕_, _⊖_, _⊗_, _÷_, part, whole, Round}
+use Rattle.fraction.specs.Fraction.{Frac, _⊕_, _⊖_, _⊗_, _÷_, part, whole, _≈_, Round}
 use Rattle.sample.specs.declared.RgbDepth.{RgbDepth}
 use Rattle.sample.specs.declared.LumaDepth.{LumaDepth}
 use Rattle.sample.specs.declared.ChromaDepth.{ChromaDepth}
@@ -82,6 +82,12 @@ EB k ey epb epr = ey ⊕ whole 2 ⊗ (whole 1 ⊖ KB k) ⊗ epb
 -- (42) solved for EG, at that ER and that EB
 abbrev pub EG : Weights → Frac → Frac → Frac → Frac
 EG k ey epb epr = (ey ⊖ KR k ⊗ ER k ey epb epr ⊖ KB k ⊗ EB k ey epb epr) ÷ KG k
+
+-- ER, EG and EB, put into (42), (43) and (44), give EY, EPB and EPR back
+pub record Solved (k : Weights) (ey epb epr : Frac) : Type 0 where
+  pub in-42 : EY k (ER k ey epb epr) (EG k ey epb epr) (EB k ey epb epr) ≈ ey
+  pub in-43 : EPB k (ER k ey epb epr) (EG k ey epb epr) (EB k ey epb epr) ≈ epb
+  pub in-44 : EPR k (ER k ey epb epr) (EG k ey epb epr) (EB k ey epb epr) ≈ epr
 
 -- R, G, B and Y written: Round(M·E) in full range (33), Round(2^s(219·E + 16)) in narrow range (27)
 abbrev pub written : Bool → ℕ → Frac → ℕ

@@ -3,7 +3,6 @@
 mod prepared;
 mod rows;
 
-use prepared::Target;
 use rows::Row;
 use sample::ChromaDepth;
 use sample::Depths;
@@ -13,9 +12,9 @@ use sample::RgbDepth;
 ghost use mathlib.Core.Path.{_≡_};
 ghost use Prim.Native.Nat.{_+_, _<_};
 ghost use Rattle.sample.specs.Depth.{Depth};
-ghost use Rattle.levels.specs.Paper.{allParts, weights, M, lightScale, rgbScale, lumaScale, chromaScale};
+ghost use Rattle.levels.specs.Paper.{allParts, weights, lightScale, rgbScale, lumaScale, chromaScale};
 ghost use Rattle.levels.specs.Luma.{LumaServed, SamplesServed, lumaForward, lumaReverse};
-ghost use Rattle.levels.specs.Lines.{rgbTarget, lumaTarget, chromaTarget, forwardLines, reverseLines};
+ghost use Rattle.levels.specs.Lines.{forwardLines, reverseLines};
 
 // KR, KG and KB, in parts of `all`.
 pub struct Weights {
@@ -74,22 +73,13 @@ pub struct Lines {
     pub third: Line,
 }
 
-// M, the largest sample of a depth.
-fn largest(depth: u8) -> u64
-    requires { ⌜ Depth depth ⌝ }
-    ensures { λ r. ⌜ r ≡ M depth ⌝ }
-{
-    let count = sample::power(depth) as u64;
-    count - 1
-}
-
 // R, G, B and Y are read alike.
 fn light_scale(full: bool, depth: u8) -> Scale
     requires { ⌜ Depth depth ⌝ }
     ensures { λ r. ⌜ r ≡ lightScale full depth ⌝ }
 {
     if full {
-        let times = largest(depth);
+        let times = prepared::largest(depth);
         return Scale { times, plus: 0 };
     }
     let step = sample::power(depth - 8) as u64;
@@ -118,7 +108,7 @@ pub fn chroma_scale(full: bool, d: ChromaDepth) -> Scale
 {
     let depth = d.0;
     if full {
-        let times = largest(depth);
+        let times = prepared::largest(depth);
         let plus = sample::power(depth - 1) as u64;
         return Scale { times, plus };
     }
@@ -126,33 +116,6 @@ pub fn chroma_scale(full: bool, d: ChromaDepth) -> Scale
     let times = 224 * step;
     let plus = 128 * step;
     Scale { times, plus }
-}
-
-fn rgb_target(full: bool, d: RgbDepth) -> Target
-    requires { ⌜ Depth (d .0) ⌝ }
-    ensures { λ r. ⌜ r ≡ rgbTarget full d ⌝ }
-{
-    let s = rgb_scale(full, d);
-    let top = largest(d.0);
-    prepared::target_of(full, s, top)
-}
-
-fn luma_target(full: bool, d: LumaDepth) -> Target
-    requires { ⌜ Depth (d .0) ⌝ }
-    ensures { λ r. ⌜ r ≡ lumaTarget full d ⌝ }
-{
-    let s = luma_scale(full, d);
-    let top = largest(d.0);
-    prepared::target_of(full, s, top)
-}
-
-fn chroma_target(full: bool, d: ChromaDepth) -> Target
-    requires { ⌜ Depth (d .0) ⌝ }
-    ensures { λ r. ⌜ r ≡ chromaTarget full d ⌝ }
-{
-    let s = chroma_scale(full, d);
-    let top = largest(d.0);
-    prepared::target_of(full, s, top)
 }
 
 // R, G, B to Y, Cb, Cr, prepared.
@@ -169,8 +132,10 @@ pub fn forward_lines(s: LumaSetting) -> Lines
     let ycc_full = s.ycc_full;
     let of_rgb = rgb_scale(rgb_full, rgb);
     let from = prepared::sources_of_rgb(of_rgb);
-    let to_luma = luma_target(ycc_full, luma);
-    let to_chroma = chroma_target(ycc_full, chroma);
+    let of_luma = luma_scale(ycc_full, luma);
+    let of_chroma = chroma_scale(ycc_full, chroma);
+    let to_luma = prepared::target_of(ycc_full, of_luma, luma.0);
+    let to_chroma = prepared::target_of(ycc_full, of_chroma, chroma.0);
     let y = rows::row_y(k);
     let pb = rows::row_pb(k);
     let pr = rows::row_pr(k);
@@ -199,7 +164,8 @@ pub fn reverse_lines(s: LumaSetting) -> Lines
     let of_luma = luma_scale(ycc_full, luma);
     let of_chroma = chroma_scale(ycc_full, chroma);
     let from = prepared::sources_of_ycc(of_luma, of_chroma);
-    let to = rgb_target(rgb_full, rgb);
+    let of_rgb = rgb_scale(rgb_full, rgb);
+    let to = prepared::target_of(rgb_full, of_rgb, rgb.0);
     let r = rows::row_r(k);
     let g = rows::row_g(k);
     let b = rows::row_b(k);

@@ -5,6 +5,8 @@ use crate::Scale;
 use crate::rows::Row;
 use sample::Pixel;
 ghost use mathlib.Core.Path.{_≡_};
+ghost use Rattle.sample.specs.Depth.{Depth};
+ghost use Rattle.levels.specs.Paper.{M};
 ghost use Rattle.levels.specs.Luma.{SamplesServed};
 ghost use Rattle.levels.specs.Lines.{targetOf, sourcesOfRgb, sourcesOfYcc, spread, lineOf, sampleOf, pixelOf, ScaleServed, SpreadServed, LineServed, Room, Rooms};
 
@@ -29,12 +31,23 @@ pub struct Sources {
     pub common: u64,
 }
 
+// M, the largest sample of a depth.
+pub fn largest(depth: u8) -> u64
+    requires { ⌜ Depth depth ⌝ }
+    ensures { λ r. ⌜ r ≡ M depth ⌝ }
+{
+    let count = sample::power(depth) as u64;
+    count - 1
+}
+
 // What a scale takes away is added again: before Round where the range is narrow, after it where it is full.
-pub fn target_of(full: bool, s: Scale, top: u64) -> Target
-    ensures { λ r. ⌜ r ≡ targetOf full s top ⌝ }
+pub fn target_of(full: bool, s: Scale, depth: u8) -> Target
+    requires { ⌜ Depth depth ⌝ }
+    ensures { λ r. ⌜ r ≡ targetOf full s depth ⌝ }
 {
     let times = s.times;
     let plus = s.plus;
+    let top = largest(depth);
     if full {
         return Target {
             times,

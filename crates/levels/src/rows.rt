@@ -105,7 +105,7 @@ pub fn row_g(k: Weights) -> Row
     let red = 2 * kr * (kg + kb);
     Row {
         up0: over,
-        up1: 0,
+        up1: 0, // Cb and Cr are taken away
         up2: 0,
         down0: 0,
         down1: blue,

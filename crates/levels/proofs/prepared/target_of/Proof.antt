@@ -1,13 +1,16 @@
--- `levels::prepared::target_of` meets its contract.
-
+-- `levels::prepared::target_of` meets its contract, by its two cases.
+use borrow.Author.Needs.{needs}
 use Rattle.levels.proofs.prepared.target_of.Statement.{statement}
 use Rattle.levels.proofs.prepared.target_of.Tie as tie
 
+largest-requires : tie.Need-largest-requires
+largest-requires c κs = search needs
+
 returns : tie.Need-returns
-returns c = rw (c .if1 .taken)
+returns c = rw (c .if1 .taken, c .before .largest .ensures)
 
 returns-2 : tie.Need-returns-2
-returns-2 c = rw (c .if1 .left)
+returns-2 c = rw (c .if1 .left, c .before .largest .ensures)
 
 pub target-of-spec : {M : Type 1} → statement M
-target-of-spec = tie.close (tie.spec returns returns-2)
+target-of-spec = tie.close (tie.spec largest-requires returns returns-2)

@@ -1,0 +1,2 @@
+-- Levels as the meter gives them.
+pub mod Level
