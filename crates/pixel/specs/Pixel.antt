@@ -1,6 +1,6 @@
 -- The conversion of one pixel, by the formulas of the setting's family.
 use mathlib.Core.Bool.{Bool, true, false, cond}
-use Prim.Native.Nat.{ℕ}
+use Prim.Native.Nat.{ℕ, _-_, _^_}
 use lib.Dec.{eqb}
 use Rattle.sample.specs.Depth.{Inside, InsideRGB, InsideYCC}
 use Rattle.sample.specs.declared.Depths.{Depths}
@@ -62,6 +62,11 @@ convert w s p = convertBy w (s .family) s p
 abbrev pub InsideSource : Way → Depths → Pixel → Type 0
 InsideSource Forward d p = InsideRGB d p
 InsideSource Reverse d p = InsideYCC d p
+
+-- the largest sample of each of those planes
+abbrev pub tops : Way → Depths → Pixel
+tops Forward d = record { p0 = 2 ^ d .rgb .0 - 1; p1 = 2 ^ d .rgb .0 - 1; p2 = 2 ^ d .rgb .0 - 1 }
+tops Reverse d = record { p0 = 2 ^ d .luma .0 - 1; p1 = 2 ^ d .chroma .0 - 1; p2 = 2 ^ d .chroma .0 - 1 }
 
 -- the call that a conversion is
 abbrev pub callOf : Way → Call

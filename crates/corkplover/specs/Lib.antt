@@ -1,0 +1,3 @@
+-- What each call answers.
+pub mod Admit
+pub mod Answers
