@@ -1,39 +1,48 @@
+-- `corkplover::admit::admit` meets its contract: a refusal by the setting stands, and else the samples are asked.
+use mathlib.Core.Path.{_≡_, sym, ap, _∙_}
+use Rattle.plane.specs.declared.search.Found.{Found}
+use Rattle.refusal.specs.declared.Refusal.{Refusal}
+use Rattle.setting.specs.Refusals.{depths, served, verdictOf}
+use Rattle.setting.specs.declared.Call.the-variants as call
+use Rattle.setting.specs.declared.verdict.Verdict.{Verdict}
+use Rattle.setting.specs.declared.verdict.Verdict.the-variants as verdict
+use Rattle.corkplover.specs.Admit.{badPixel, past, admitted}
+use Rattle.corkplover.proofs.AdmitLaws.{refused-stays, verdict-ready, verdict-is, three}
 use borrow.Author.Needs.{needs}
 use Rattle.corkplover.proofs.admit.admit.Statement.{statement}
 use Rattle.corkplover.proofs.admit.admit.Tie as tie
-use Rattle.corkplover.proofs.admit.admit.Reads as reads
-use Rattle.corkplover.proofs.admit.admit.Lts as lts
-use Rattle.corkplover.proofs.admit.bad_pixel.Reads as bad-pixel-reads
-use Rattle.corkplover.proofs.admit.past.Reads as past-reads
-use Rattle.setting.proofs.verdict.judge.Reads as judge-reads
 
--- src/admit.rt:45:9
 judge-requires : tie.Need-judge-requires
 judge-requires c κs = search needs
 
--- src/admit.rt:47:32
 enum-told : tie.Need-enum-told
 enum-told c = search needs
 
--- src/admit.rt:48:25
 enum-known-v : tie.Need-enum-known-v
 enum-known-v c = search needs
 
--- src/admit.rt:50:21
 bad-pixel-requires : tie.Need-bad-pixel-requires
-bad-pixel-requires c κs = ?
+bad-pixel-requires c κs =
+    let a = c .before .before .before .before .before .args in
+    three (verdict-ready (a .call) (a .s) _ (sym (c .before .before .before .before .judge .ensures) ∙ c .before .before .v .given .1))
 
--- src/admit.rt:50:13
 past-requires : tie.Need-past-requires
 past-requires c κs = search needs
 
--- src/admit.rt:42:1
 returns : tie.Need-returns
-returns c = ?
+unfolding admitted
+returns c =
+    let a = c .before .before .before .args in
+    let f = badPixel (a .way) (depths (a .s)) (a .p) in
+    refused-stays _ f _ (c .enum-told .given .1) ∙ ap (λ u. past u f) (c .before .before .judge .ensures)
 
--- src/admit.rt:42:1
 returns-2 : tie.Need-returns-2
-returns-2 c = ?
+unfolding admitted
+returns-2 c =
+    let a = c .before .before .before .before .before .before .before .args in
+    let e = sym (c .before .before .before .before .v .given .1) ∙ c .before .before .before .before .before .before .judge .ensures in
+    let k = verdict-is (a .call) (a .s) _ (sym e) in
+    c .past .ensures ∙ (λ i. past (e i) (c .before .bad-pixel .ensures i)) ∙ ap (λ y. past (verdictOf (a .call) (a .s)) (badPixel (a .way) (y .depths) (a .p))) (sym k)
 
 pub admit-spec : {M : Type 1} → statement M
 admit-spec =

@@ -1,39 +1,48 @@
+-- `corkplover::admit::admit_one` meets its contract: a refusal by the setting stands, and else the samples are asked.
+use mathlib.Core.Path.{_≡_, sym, ap, _∙_}
+use Rattle.plane.specs.declared.search.Found.{Found}
+use Rattle.refusal.specs.declared.Refusal.{Refusal}
+use Rattle.setting.specs.Refusals.{depths, served, verdictOf}
+use Rattle.setting.specs.declared.Call.the-variants as call
+use Rattle.setting.specs.declared.verdict.Verdict.{Verdict}
+use Rattle.setting.specs.declared.verdict.Verdict.the-variants as verdict
+use Rattle.corkplover.specs.Admit.{badOne, past, admittedOne}
+use Rattle.corkplover.proofs.AdmitLaws.{refused-stays, verdict-ready, verdict-is, three}
 use borrow.Author.Needs.{needs}
 use Rattle.corkplover.proofs.admit.admit_one.Statement.{statement}
 use Rattle.corkplover.proofs.admit.admit_one.Tie as tie
-use Rattle.corkplover.proofs.admit.admit_one.Reads as reads
-use Rattle.corkplover.proofs.admit.admit_one.Lts as lts
-use Rattle.corkplover.proofs.admit.bad_one.Reads as bad-one-reads
-use Rattle.corkplover.proofs.admit.past.Reads as past-reads
-use Rattle.setting.proofs.verdict.judge.Reads as judge-reads
 
--- src/admit.rt:81:9
 judge-requires : tie.Need-judge-requires
 judge-requires c κs = search needs
 
--- src/admit.rt:83:32
 enum-told : tie.Need-enum-told
 enum-told c = search needs
 
--- src/admit.rt:84:25
 enum-known-verdict : tie.Need-enum-known-verdict
 enum-known-verdict c = search needs
 
--- src/admit.rt:86:27
 bad-one-requires : tie.Need-bad-one-requires
-bad-one-requires c κs = ?
+bad-one-requires c κs =
+    let a = c .before .before .before .before .before .args in
+    three (verdict-ready call.Meter (a .s) _ (sym (c .before .before .before .before .judge .ensures) ∙ c .before .before .verdict .given .1))
 
--- src/admit.rt:86:13
 past-requires : tie.Need-past-requires
 past-requires c κs = search needs
 
--- src/admit.rt:78:1
 returns : tie.Need-returns
-returns c = ?
+unfolding admittedOne
+returns c =
+    let a = c .before .before .before .args in
+    let f = badOne (a .kind) (depths (a .s)) (a .v) in
+    refused-stays _ f _ (c .enum-told .given .1) ∙ ap (λ u. past u f) (c .before .before .judge .ensures)
 
--- src/admit.rt:78:1
 returns-2 : tie.Need-returns-2
-returns-2 c = ?
+unfolding admittedOne
+returns-2 c =
+    let a = c .before .before .before .before .before .before .before .args in
+    let e = sym (c .before .before .before .before .verdict .given .1) ∙ c .before .before .before .before .before .before .judge .ensures in
+    let k = verdict-is call.Meter (a .s) _ (sym e) in
+    c .past .ensures ∙ (λ i. past (e i) (c .before .bad-one .ensures i)) ∙ ap (λ y. past (verdictOf call.Meter (a .s)) (badOne (a .kind) (y .depths) (a .v))) (sym k)
 
 pub admit-one-spec : {M : Type 1} → statement M
 admit-one-spec =

@@ -1,45 +1,34 @@
+-- `corkplover::admit::top_of` meets its contract, kind by kind.
 use borrow.Author.Needs.{needs}
 use Rattle.corkplover.proofs.admit.top_of.Statement.{statement}
 use Rattle.corkplover.proofs.admit.top_of.Tie as tie
-use Rattle.corkplover.proofs.admit.top_of.Reads as reads
-use Rattle.corkplover.proofs.admit.top_of.Lts as lts
-use Rattle.pixel.proofs.top_of.Reads as top-of-reads
 
--- src/admit.rt:61:26
 enum-told : tie.Need-enum-told
 enum-told c = search needs
 
--- src/admit.rt:61:26
 top-of-requires : tie.Need-top-of-requires
 top-of-requires c κs = search needs
 
--- src/admit.rt:62:27
 enum-told-2 : tie.Need-enum-told-2
 enum-told-2 c = search needs
 
--- src/admit.rt:62:27
 top-of-requires-2 : tie.Need-top-of-requires-2
 top-of-requires-2 c κs = search needs
 
--- src/admit.rt:63:27
 enum-told-3 : tie.Need-enum-told-3
 enum-told-3 c = search needs
 
--- src/admit.rt:63:27
 top-of-requires-3 : tie.Need-top-of-requires-3
 top-of-requires-3 c κs = search needs
 
--- src/admit.rt:56:1
 returns : tie.Need-returns
-returns c = ?
+returns c = rw (c .before .enum-told .given .1) (c .top-of .ensures)
 
--- src/admit.rt:56:1
 returns-2 : tie.Need-returns-2
-returns-2 c = ?
+returns-2 c = rw (c .before .enum-told2 .given .1) (c .top-of2 .ensures)
 
--- src/admit.rt:56:1
 returns-3 : tie.Need-returns-3
-returns-3 c = ?
+returns-3 c = rw (c .before .enum-told3 .given .1) (c .top-of3 .ensures)
 
 pub top-of-spec : {M : Type 1} → statement M
 top-of-spec =

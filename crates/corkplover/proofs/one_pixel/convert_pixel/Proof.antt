@@ -1,44 +1,54 @@
+-- `corkplover::one_pixel::convert_pixel` meets its contract: a call that was let in has all that the conversion asks.
+use mathlib.Core.Path.{_≡_, sym, ap, _∙_}
+use Rattle.pixel.specs.Pixel.{convert, callOf}
+use Rattle.setting.specs.declared.verdict.Served.{Served}
+use Rattle.setting.specs.declared.verdict.Verdict.the-variants as verdict
+use Rattle.corkplover.specs.Admit.{admitted}
+use Rattle.corkplover.specs.Answers.{convertedBy, pixelAnswer}
+use Rattle.corkplover.specs.declared.one_pixel.PixelAnswer.the-variants as answer
+use Rattle.corkplover.proofs.AdmitLaws.{LetIn, let-in}
 use borrow.Author.Needs.{needs}
 use Rattle.corkplover.proofs.one_pixel.convert_pixel.Statement.{statement}
 use Rattle.corkplover.proofs.one_pixel.convert_pixel.Tie as tie
-use Rattle.corkplover.proofs.one_pixel.convert_pixel.Reads as reads
-use Rattle.corkplover.proofs.one_pixel.convert_pixel.Lts as lts
-use Rattle.corkplover.proofs.admit.admit.Reads as admit-reads
-use Rattle.pixel.proofs.call_of.Reads as call-of-reads
-use Rattle.pixel.proofs.convert.Reads as convert-reads
-use Rattle.pixel.proofs.prepare.Reads as prepare-reads
 
--- src/one_pixel.rt:27:24
+-- the answer of the door, with the call that the way is
+answered : (c : tie.After-admit) → let a = c .before .before .args in c .admit .result ≡ admitted (callOf (a .way)) (a .way) (a .s) (a .p)
+answered c = let a = c .before .before .args in c .admit .ensures ∙ ap (λ k. admitted k (a .way) (a .s) (a .p)) (c .before .call-of .ensures)
+
+known : (c : tie.After-served) → let a = c .before .before .before .before .args in LetIn (a .way) (a .p) (c .served .given .0 .0)
+known c = let a = c .before .before .before .before .args in let-in (callOf (a .way)) (a .way) (a .s) (a .p) _ (sym (answered (c .before .before)) ∙ c .served .given .1)
+
 call-of-requires : tie.Need-call-of-requires
 call-of-requires c κs = search needs
 
--- src/one_pixel.rt:27:11
 admit-requires : tie.Need-admit-requires
 admit-requires c κs = search needs
 
--- src/one_pixel.rt:28:26
 enum-known-refusal : tie.Need-enum-known-refusal
 enum-known-refusal c = search needs
 
--- src/one_pixel.rt:29:25
 enum-known-served : tie.Need-enum-known-served
 enum-known-served c = search needs
 
--- src/one_pixel.rt:30:17
 prepare-requires : tie.Need-prepare-requires
-prepare-requires c κs = ?
+prepare-requires c κs = (known (c .before)) .is-ready
 
--- src/one_pixel.rt:31:36
 convert-requires : tie.Need-convert-requires
-convert-requires c κs = ?
+convert-requires c κs =
+    let k = known (c .before .before) in
+    (k .is-ready, (c .prepare .ensures, k .inside))
 
--- src/one_pixel.rt:24:1
 returns : tie.Need-returns
-returns c = ?
+unfolding pixelAnswer
+returns c =
+    let a = c .before .before .before .before .before .args in
+    ap (convertedBy (a .way) (a .p)) (sym (c .before .refusal .given .1) ∙ answered (c .before .before .before))
 
--- src/one_pixel.rt:24:1
 returns-2 : tie.Need-returns-2
-returns-2 c = ?
+unfolding pixelAnswer
+returns-2 c =
+    let a = c .before .before .before .before .before .before .before .args in
+    ap answer.Converted (c .convert .ensures) ∙ ap (convertedBy (a .way) (a .p)) (sym (c .before .before .before .served .given .1) ∙ answered (c .before .before .before .before .before))
 
 pub convert-pixel-spec : {M : Type 1} → statement M
 convert-pixel-spec =
