@@ -1,6 +1,7 @@
 -- Who is let in: rows 1 to 7 and 11 by the setting, and then 10 by the samples that the call was handed.
 use mathlib.Core.List.{List, [], _∷_}
-use Prim.Native.Nat.{ℕ, _-_, _^_}
+use Prim.Native.Nat.{ℕ}
+use Rattle.sample.specs.Depth.{M}
 use Rattle.sample.specs.declared.Depths.{Depths}
 use Rattle.sample.specs.declared.Pixel.{Pixel}
 use Rattle.refusal.specs.Table.{badAt}
@@ -27,9 +28,9 @@ badPixel w d p =
 
 -- row 10 on one sample of a kind, with that plane's number
 abbrev pub topOf : SampleKind → Depths → ℕ
-topOf kind.Y d = 2 ^ d .luma .0 - 1
-topOf kind.Cb d = 2 ^ d .chroma .0 - 1
-topOf kind.Cr d = 2 ^ d .chroma .0 - 1
+topOf kind.Y d = M (d .luma .0)
+topOf kind.Cb d = M (d .chroma .0)
+topOf kind.Cr d = M (d .chroma .0)
 
 abbrev pub badOne : SampleKind → Depths → ℕ → Found
 badOne k d v = firstBad (v ∷ []) (planeOf k) 1 1 1 (topOf k d)

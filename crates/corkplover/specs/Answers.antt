@@ -57,3 +57,38 @@ levelsBy p (verdict.Refused r) = levels.Refused r
 
 unfoldable pub levelsAnswer : Setting → Pixel → LevelsAnswer
 levelsAnswer s p = levelsBy p (admitted call.Meter Reverse s p)
+
+-- What an answer says in the rules' own terms: 0 or the refusal's number, the place of a 10, the samples and the levels.
+-- A refusal gives no samples and no levels.
+pub record Said : Type 0 where
+  pub number : ℕ
+  pub place : Place
+  pub samples : List ℕ
+  pub levels : List Float
+
+abbrev pub saidRefusal : Refusal → Said
+saidRefusal r = record { number = r .number; place = r .place; samples = []; levels = [] }
+
+abbrev pub saidSamples : List ℕ → Said
+saidSamples l = record { number = 0; place = nowhere; samples = l; levels = [] }
+
+abbrev pub saidLevels : List Float → Said
+saidLevels l = record { number = 0; place = nowhere; samples = []; levels = l }
+
+abbrev pub pixelSaid : PixelAnswer → Said
+pixelSaid (pixel.Converted p) = saidSamples (p .p0 ∷ p .p1 ∷ p .p2 ∷ [])
+pixelSaid (pixel.Refused r) = saidRefusal r
+
+-- yes is 0 and none is 1
+abbrev pub sourceSaid : SourceAnswer → Said
+sourceSaid source.Yes = saidSamples (0 ∷ [])
+sourceSaid source.NoSource = saidSamples (1 ∷ [])
+sourceSaid (source.Refused r) = saidRefusal r
+
+abbrev pub readingSaid : Reading → Said
+readingSaid (meter.Level x) = saidLevels (x ∷ [])
+readingSaid (meter.Refused r) = saidRefusal r
+
+abbrev pub levelsSaid : LevelsAnswer → Said
+levelsSaid (levels.Levels x) = saidLevels (x .y ∷ x .cb ∷ x .cr ∷ [])
+levelsSaid (levels.Refused r) = saidRefusal r

@@ -13,7 +13,8 @@ use Rattle.fraction.proofs.Same.{ring, by-parts, ≈-refl}
 use Rattle.fraction.proofs.Value.{Value, ⊕-value, ⊗-value, lift, rename, Round-value}
 use Rattle.sample.specs.declared.ChromaDepth.{ChromaDepth}
 use Rattle.sample.specs.declared.Pixel.{Pixel}
-use Rattle.levels.specs.Paper.{M, H, S, lightScale, chromaScale, level, written, writtenChroma}
+use Rattle.sample.specs.Depth.{M, H}
+use Rattle.levels.specs.Paper.{S, lightScale, chromaScale, level, written, writtenChroma}
 use Rattle.levels.specs.Rows.{sumOf}
 use Rattle.levels.specs.Lines.{targetOf, wrote, source, read, lineOf, lineAt, sampleOf}
 use Rattle.levels.specs.declared.Scale.{Scale}

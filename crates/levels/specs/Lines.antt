@@ -4,7 +4,7 @@ use Prim.Native.Nat.{ℕ, _+_, _*_}
 use lib.IntN.{ℤ, pos, _+ℤ_, _-ℤ_, _*ℤ_}
 use Rattle.whole.specs.Whole.{round, clip}
 use Rattle.sample.specs.declared.Pixel.{Pixel}
-use Rattle.levels.specs.Paper.{M}
+use Rattle.sample.specs.Depth.{M}
 use Rattle.levels.specs.Luma.{rgbOf, lumaOf, chromaOf}
 use Rattle.levels.specs.Rows.{sumOf, rowY, rowPB, rowPR, rowR, rowG, rowB}
 use Rattle.levels.specs.declared.Scale.{Scale}

@@ -1,7 +1,7 @@
 // One pixel, both ways: the family sorts the formulas, and what a luma matrix needs is prepared once.
 ghost use mathlib.Core.Path.{_≡_};
-ghost use Prim.Native.Nat.{_-_, _^_, _≤_};
-ghost use Rattle.sample.specs.Depth.{InsideRGB, InsideYCC};
+ghost use Prim.Native.Nat.{_≤_};
+ghost use Rattle.sample.specs.Depth.{M, InsideRGB, InsideYCC};
 ghost use Rattle.ycgco.specs.YCgCo.{Plain, Roomy};
 ghost use Rattle.levels.specs.Luma.{LumaServed, SamplesServed};
 ghost use Rattle.pixel.specs.Pixel.{swap, lossy, lossless, luma, lines, ycgco8, preparedFor, convert, InsideSource, callOf, tops};
@@ -38,7 +38,7 @@ pub fn call_of(way: Way) -> Call
 // The largest sample of a depth.
 pub fn top_of(depth: u8) -> u16
     requires { ⌜ depth ≤ 16 ⌝ }
-    ensures { λ r. ⌜ r ≡ 2 ^ depth - 1 ⌝ }
+    ensures { λ r. ⌜ r ≡ M depth ⌝ }
 {
     let count = sample::power(depth);
     (count - 1) as u16

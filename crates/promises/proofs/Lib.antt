@@ -1,0 +1,6 @@
+-- The promises, each in a file of its own.
+pub mod Marked
+pub mod Refusals
+pub mod Places
+pub mod Once
+pub mod Lossless
