@@ -4,3 +4,4 @@ pub mod Refusals
 pub mod Places
 pub mod Once
 pub mod Lossless
+pub mod Accepted
