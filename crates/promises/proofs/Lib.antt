@@ -5,3 +5,4 @@ pub mod Places
 pub mod Once
 pub mod Lossless
 pub mod Accepted
+pub mod Fields
