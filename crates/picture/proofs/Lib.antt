@@ -1,0 +1,2 @@
+-- Laws of a picture's verdict.
+pub mod VerdictLaws
