@@ -1,2 +1,3 @@
 -- Laws of a picture's verdict.
 pub mod VerdictLaws
+pub mod Accepted

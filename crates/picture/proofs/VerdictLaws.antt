@@ -20,7 +20,7 @@ use Rattle.picture.specs.Picture.{Picture, sideOfPicture}
 use Rattle.picture.specs.Verdict.{beyondDepth, unlessFound, pictureVerdict}
 
 -- a verdict is one of the two
-never-both : (x : Served) (r : Refusal) → verdict.Served x ≡ verdict.Refused r → ⊥
+pub never-both : (x : Served) (r : Refusal) → verdict.Served x ≡ verdict.Refused r → ⊥
 never-both x r e = let z : _≡_ {A = ℕ} 0 1 = cc in omega arith
 
 -- what the setting's verdict tells of its number

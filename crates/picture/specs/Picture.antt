@@ -1,6 +1,6 @@
 -- A picture: three planes of one stride, with a width and a height.
 use mathlib.Core.List.{List, [], _∷_}
-use Prim.Native.Nat.{ℕ}
+use Prim.Native.Nat.{ℕ, _<_}
 use lib.ListN.{length}
 use Rattle.sample.specs.declared.Pixel.{Pixel}
 use Rattle.plane.specs.Plane.{pixelAt}
@@ -30,3 +30,7 @@ sideOfPicture a = sideOf (a .stride) (length (a .p0)) (length (a .p1)) (length (
 -- its pixel at row j and column i
 abbrev pub pixelOf : Picture → ℕ → ℕ → Pixel
 pixelOf a j i = pixelAt (a .p0) (a .p1) (a .p2) (a .stride) j i
+
+-- a fact of every pixel of a picture
+abbrev pub EveryPixel : (Pixel → Type 0) → Picture → Type 0
+EveryPixel fact a = (j i : ℕ) → j < a .height → i < a .width → fact (pixelOf a j i)
