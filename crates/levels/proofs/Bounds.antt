@@ -5,15 +5,15 @@ use mathlib.Core.Bool.{Bool, true, false}
 use Prim.Native.Nat.{ℕ, zero, suc, _+_, _*_, _-_, _^_, _≤_, _<_}
 use native.Mathlib.Nat.{mul-pos, mul-le-mul, mul-le-mul-left, le-refl}
 use native.Mathlib.Omega.{arith}
-use Rattle.sample.specs.Depth.{leastDepth, mostLumaMatrixDepth}
+use Rattle.sample.specs.Depth.{mostLumaMatrixDepth}
 use Rattle.sample.specs.declared.ChromaDepth.{ChromaDepth}
 use Rattle.sample.specs.declared.Pixel.{Pixel}
-use Rattle.sample.proofs.DepthLaws.{powers}
-use Rattle.levels.specs.Paper.{allParts, weights, M, lightScale, chromaScale}
+use Rattle.sample.proofs.DepthLaws.{Powers, powers}
+use Rattle.levels.specs.Paper.{allParts, weights, lightScale, chromaScale}
 use Rattle.levels.specs.Luma.{Shares, LumaMatrixDepth, SamplesServed, mostSample}
-use Rattle.levels.specs.Rows.{total, rowY, rowPB, rowPR, rowR, rowG, rowB}
-use Rattle.levels.specs.Lines.{targetOf, sourcesOfRgb, sourcesOfYcc, spread, lineOf, ScaleServed, SpreadServed, LineServed, Room}
-use Rattle.levels.specs.declared.Line.{Line}
+use Rattle.levels.specs.Rows.{rowY, rowPB, rowPR, rowR, rowG, rowB}
+use Rattle.levels.specs.Lines.{targetOf, sourcesOfRgb, sourcesOfYcc, spread, lineOf}
+use Rattle.levels.specs.Room.{total, mostTotal, ScaleServed, SpreadServed, LineServed, Room}
 use Rattle.levels.specs.declared.Scale.{Scale}
 use Rattle.levels.specs.declared.Weights.{Weights}
 use Rattle.levels.specs.declared.rows.Row.{Row}
@@ -24,9 +24,18 @@ use Rattle.levels.specs.declared.prepared.Target.{Target}
 pub weights-served : (kr kb : ℕ) → kr + kb < allParts → Shares (weights kr kb)
 weights-served kr kb h = omega arith
 
--- a sample below 2^d is served
-pub sample-served : (d v : ℕ) → d ≤ mostLumaMatrixDepth → leastDepth ≤ d → v < 2 ^ d → v ≤ mostSample
-sample-served d v u h l = let p = powers d mostLumaMatrixDepth h u in omega arith
+-- the powers of two of a depth that is served
+depth-powers : {d : ℕ} → LumaMatrixDepth d → Powers d mostLumaMatrixDepth
+depth-powers {d} h = powers d mostLumaMatrixDepth (h .least) (h .most)
+
+-- Samples below 2^depth are served.
+pub sample-served : {d : ℕ} (v : ℕ) → LumaMatrixDepth d → v < 2 ^ d → v ≤ mostSample
+sample-served {d} v h l = let p = depth-powers h in omega arith
+
+pub samples-served : {a b c : ℕ} (p : Pixel) → LumaMatrixDepth a → LumaMatrixDepth b → LumaMatrixDepth c
+    → p .p0 < 2 ^ a → p .p1 < 2 ^ b → p .p2 < 2 ^ c → SamplesServed p
+samples-served p ha hb hc la lb lc =
+    record { p0-in = sample-served (p .p0) ha la; p1-in = sample-served (p .p1) hb lb; p2-in = sample-served (p .p2) hc lc }
 
 -- Scales and targets of the depths served.
 pub record TargetServed (most : ℕ) (t : Target) : Type 0 where
@@ -36,22 +45,22 @@ pub record TargetServed (most : ℕ) (t : Target) : Type 0 where
   pub top-in : t .top ≤ mostSample
 
 module _ (d : ℕ) (h : LumaMatrixDepth d) where
-  pub light-served : (f : Bool) → ScaleServed (lightScale f d)
-  light-served true = let p = powers d mostLumaMatrixDepth (h .least) (h .most) in omega arith
-  light-served false = let p = powers d mostLumaMatrixDepth (h .least) (h .most) in omega arith
+  pub light-scale-served : (f : Bool) → ScaleServed (lightScale f d)
+  light-scale-served true = let p = depth-powers h in omega arith
+  light-scale-served false = let p = depth-powers h in omega arith
 
   pub light-target-served : (f : Bool) → TargetServed 256 (targetOf f (lightScale f d) d)
-  light-target-served true = let p = powers d mostLumaMatrixDepth (h .least) (h .most) in omega arith
-  light-target-served false = let p = powers d mostLumaMatrixDepth (h .least) (h .most) in omega arith
+  light-target-served true = let p = depth-powers h in omega arith
+  light-target-served false = let p = depth-powers h in omega arith
 
 module _ (d : ChromaDepth) (h : LumaMatrixDepth (d .0)) where
-  pub colour-served : (f : Bool) → ScaleServed (chromaScale f d)
-  colour-served true = let p = powers (d .0) mostLumaMatrixDepth (h .least) (h .most) in omega arith
-  colour-served false = let p = powers (d .0) mostLumaMatrixDepth (h .least) (h .most) in omega arith
+  pub chroma-scale-served : (f : Bool) → ScaleServed (chromaScale f d)
+  chroma-scale-served true = let p = depth-powers h in omega arith
+  chroma-scale-served false = let p = depth-powers h in omega arith
 
-  pub colour-target-served : (f : Bool) → TargetServed 2048 (targetOf f (chromaScale f d) (d .0))
-  colour-target-served true = let p = powers (d .0) mostLumaMatrixDepth (h .least) (h .most) in omega arith
-  colour-target-served false = let p = powers (d .0) mostLumaMatrixDepth (h .least) (h .most) in omega arith
+  pub chroma-target-served : (f : Bool) → TargetServed 2048 (targetOf f (chromaScale f d) (d .0))
+  chroma-target-served true = let p = depth-powers h in omega arith
+  chroma-target-served false = let p = depth-powers h in omega arith
 
 pub wider : {t : Target} → TargetServed 256 t → TargetServed 2048 t
 wider h = omega arith
@@ -59,8 +68,8 @@ wider h = omega arith
 -- The six rows.
 pub record RowServed (w : Row) : Type 0 where
   pub some : 0 < w .over
-  pub over-in : w .over ≤ 100000000
-  pub total-in : total w ≤ 125000000
+  pub over-in : w .over ≤ allParts * allParts
+  pub total-in : total w ≤ mostTotal
 
 twice-product : (a b : ℕ) → 2 * (a * b) ≤ a * a + b * b
 twice-product zero b = omega arith
@@ -153,7 +162,7 @@ spread-bounds h =
       down2 = carried _ _ _ (h .times-in) (h .rest-in);
     }
 
--- A row's weights, each times a number of its own that is no sample above the largest.
+-- A row's weights, each times a number no larger than the largest sample.
 pub record Terms (w : Row) (x y z : ℕ) : Type 0 where
   pub up0 : w .up0 * x ≤ w .up0 * mostSample
   pub up1 : w .up1 * y ≤ w .up1 * mostSample

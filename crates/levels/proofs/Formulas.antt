@@ -12,7 +12,6 @@ use Rattle.levels.specs.Paper.{KG, EY, EPB, EPR, ER, EG, EB}
 use Rattle.levels.specs.Luma.{Shares}
 use Rattle.levels.specs.Rows.{sumOf, rowY, rowPB, rowPR, rowR, rowG, rowB}
 use Rattle.levels.specs.declared.Weights.{Weights}
-use Rattle.levels.specs.declared.rows.Row.{Row}
 
 -- 2(1 - K), for a weight K of k parts that leaves j of n: to multiply by it, and to divide a difference by it
 abbrev pub twice : ℕ → ℕ → Frac

@@ -8,7 +8,7 @@ use Rattle.whole.proofs.Difference.{parts, parts-of}
 use Rattle.whole.proofs.Closers.{same}
 use Rattle.fraction.specs.Fraction.{Frac, _⊖_, _÷_, _≈_}
 use Rattle.fraction.proofs.Same.{ring, ≈-refl}
-use Rattle.fraction.proofs.Value.{Value, ⊖-value, ÷-value, lift, rename, both}
+use Rattle.fraction.proofs.Value.{Value, lift, rename, both}
 use Rattle.levels.specs.Paper.{EY, EPB, EPR, ER, EG, EB, Solved}
 use Rattle.levels.specs.Luma.{Shares}
 use Rattle.levels.specs.Rows.{sumOf, rowG}

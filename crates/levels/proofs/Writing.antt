@@ -1,7 +1,7 @@
 -- A row's line is the row, read and written as printed: the line's numbers are the row's, multiplied out.
 use mathlib.Core.Path.{_≡_, refl, sym, ap, _∙_}
 use mathlib.Core.Bool.{Bool, true, false}
-use Prim.Native.Nat.{ℕ, _+_, _*_, _-_, _<_, _^_}
+use Prim.Native.Nat.{ℕ, _+_, _*_, _-_, _<_}
 use native.Mathlib.Nat.{one-mul, mul-comm}
 use native.Mathlib.Omega.{arith}
 use lib.IntN.{ℤ, pos, _+ℤ_, _-ℤ_, _*ℤ_, +ℤ-idr}
@@ -13,7 +13,8 @@ use Rattle.fraction.proofs.Same.{ring, by-parts, ≈-refl}
 use Rattle.fraction.proofs.Value.{Value, ⊕-value, ⊗-value, lift, rename, Round-value}
 use Rattle.sample.specs.declared.ChromaDepth.{ChromaDepth}
 use Rattle.sample.specs.declared.Pixel.{Pixel}
-use Rattle.levels.specs.Paper.{M, H, S, lightScale, chromaScale, level, written, writtenChroma}
+use Rattle.sample.specs.Depth.{M, H}
+use Rattle.levels.specs.Paper.{S, lightScale, chromaScale, level, written, writtenChroma}
 use Rattle.levels.specs.Rows.{sumOf}
 use Rattle.levels.specs.Lines.{targetOf, wrote, source, read, lineOf, lineAt, sampleOf}
 use Rattle.levels.specs.declared.Scale.{Scale}

@@ -3,3 +3,4 @@ pub mod Paper
 pub mod Luma
 pub mod Rows
 pub mod Lines
+pub mod Room

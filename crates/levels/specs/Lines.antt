@@ -1,15 +1,12 @@
 -- A prepared line: a row with the samples that it reads and the plane that it writes, in whole numbers.
 use mathlib.Core.Bool.{Bool, true, false}
-use Prim.Native.Nat.{ℕ, _+_, _*_, _≤_, _<_}
+use Prim.Native.Nat.{ℕ, _+_, _*_}
 use lib.IntN.{ℤ, pos, _+ℤ_, _-ℤ_, _*ℤ_}
 use Rattle.whole.specs.Whole.{round, clip}
-use Rattle.sample.specs.declared.RgbDepth.{RgbDepth}
-use Rattle.sample.specs.declared.LumaDepth.{LumaDepth}
-use Rattle.sample.specs.declared.ChromaDepth.{ChromaDepth}
 use Rattle.sample.specs.declared.Pixel.{Pixel}
-use Rattle.levels.specs.Paper.{M, rgbScale, lumaScale, chromaScale}
-use Rattle.levels.specs.Luma.{mostSample}
-use Rattle.levels.specs.Rows.{sumOf, total, rowY, rowPB, rowPR, rowR, rowG, rowB}
+use Rattle.sample.specs.Depth.{M}
+use Rattle.levels.specs.Luma.{rgbOf, lumaOf, chromaOf}
+use Rattle.levels.specs.Rows.{sumOf, rowY, rowPB, rowPR, rowR, rowG, rowB}
 use Rattle.levels.specs.declared.Scale.{Scale}
 use Rattle.levels.specs.declared.Line.{Line}
 use Rattle.levels.specs.declared.Lines.{Lines}
@@ -24,14 +21,14 @@ abbrev pub targetOf : Bool → Scale → ℕ → Target
 targetOf true s d = record { times = s .times; plus = 0; mid = s .plus; top = M d }
 targetOf false s d = record { times = s .times; plus = s .plus; mid = 0; top = M d }
 
-abbrev pub rgbTarget : Bool → RgbDepth → Target
-rgbTarget full d = targetOf full (rgbScale full d) (d .0)
+abbrev pub rgbTarget : LumaSetting → Target
+rgbTarget s = targetOf (s .«rgb_full») (rgbOf s) (s .depths .rgb .0)
 
-abbrev pub lumaTarget : Bool → LumaDepth → Target
-lumaTarget full d = targetOf full (lumaScale full d) (d .0)
+abbrev pub lumaTarget : LumaSetting → Target
+lumaTarget s = targetOf (s .«ycc_full») (lumaOf s) (s .depths .luma .0)
 
-abbrev pub chromaTarget : Bool → ChromaDepth → Target
-chromaTarget full d = targetOf full (chromaScale full d) (d .0)
+abbrev pub chromaTarget : LumaSetting → Target
+chromaTarget s = targetOf (s .«ycc_full») (chromaOf s) (s .depths .chroma .0)
 
 -- a level z / n, written
 abbrev pub wrote : Target → ℤ → ℕ → ℕ
@@ -93,52 +90,19 @@ pixelOf l p = record { p0 = sampleOf (l .first) p; p1 = sampleOf (l .second) p; 
 unfoldable pub forwardLines : LumaSetting → Lines
 forwardLines s =
     let k = s .weights in
-    let from = sourcesOfRgb (rgbScale (s .«rgb_full») (s .depths .rgb)) in
-    let luma = lumaTarget (s .«ycc_full») (s .depths .luma) in
-    let chroma = chromaTarget (s .«ycc_full») (s .depths .chroma) in
-    record { first = lineOf (rowY k) from luma; second = lineOf (rowPB k) from chroma; third = lineOf (rowPR k) from chroma }
+    let from = sourcesOfRgb (rgbOf s) in
+    record {
+      first = lineOf (rowY k) from (lumaTarget s);
+      second = lineOf (rowPB k) from (chromaTarget s);
+      third = lineOf (rowPR k) from (chromaTarget s);
+    }
 
 unfoldable pub reverseLines : LumaSetting → Lines
 reverseLines s =
     let k = s .weights in
-    let from = sourcesOfYcc (lumaScale (s .«ycc_full») (s .depths .luma)) (chromaScale (s .«ycc_full») (s .depths .chroma)) in
-    let to = rgbTarget (s .«rgb_full») (s .depths .rgb) in
-    record { first = lineOf (rowR k) from to; second = lineOf (rowG k) from to; third = lineOf (rowB k) from to }
-
--- a scale of such a depth
-pub record ScaleServed (s : Scale) : Type 0 where
-  pub some : 0 < s .times
-  pub times-in : s .times ≤ mostSample
-  pub plus-in : s .plus ≤ mostSample
-
--- a row and samples whose spread has room in 64 bits
-pub record SpreadServed (w : Row) (from : Sources) (times : ℕ) : Type 0 where
-  pub first-in : from .first .mul ≤ mostSample
-  pub rest-in : from .rest .mul ≤ mostSample
-  pub times-in : times ≤ mostSample
-  pub total-in : total w ≤ 125000000
-  pub over-in : w .over * from .common ≤ 100000000000000000
-
--- a row, samples and a plane whose line has
-pub record LineServed (w : Row) (from : Sources) (to : Target) : Type 0 where
-  pub spreads : SpreadServed w from (to .times)
-  pub first-plus : from .first .plus ≤ mostSample
-  pub rest-plus : from .rest .plus ≤ mostSample
-  pub mid-in : to .mid ≤ to .top
-  pub top-in : to .top ≤ mostSample
-  pub over-some : 0 < w .over * from .common
-  pub added-in : to .plus * (w .over * from .common) ≤ 500000000000000000
-
--- a line that has, and three
-pub record Room (l : Line) : Type 0 where
-  pub up-fits : mostSample * (l .row .up0 + l .row .up1 + l .row .up2) + l .up ≤ 9100000000000000000
-  pub down-fits : mostSample * (l .row .down0 + l .row .down1 + l .row .down2) + l .down ≤ 9100000000000000000
-  pub over-fits : l .row .over ≤ 100000000000000000
-  pub over-some : 0 < l .row .over
-  pub mid-in : l .mid ≤ l .top
-  pub top-in : l .top ≤ mostSample
-
-pub record Rooms (l : Lines) : Type 0 where
-  pub first : Room (l .first)
-  pub second : Room (l .second)
-  pub third : Room (l .third)
+    let from = sourcesOfYcc (lumaOf s) (chromaOf s) in
+    record {
+      first = lineOf (rowR k) from (rgbTarget s);
+      second = lineOf (rowG k) from (rgbTarget s);
+      third = lineOf (rowB k) from (rgbTarget s);
+    }

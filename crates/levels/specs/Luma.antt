@@ -6,24 +6,25 @@ use Rattle.sample.specs.Depth.{leastDepth, mostLumaMatrixDepth}
 use Rattle.sample.specs.declared.Pixel.{Pixel}
 use Rattle.levels.specs.Paper.{allParts, rgbScale, lumaScale, chromaScale, level, EY, EPB, EPR, ER, EG, EB, writtenRgb, writtenLuma, writtenChroma}
 use Rattle.levels.specs.declared.LumaSetting.{LumaSetting}
+use Rattle.levels.specs.declared.Scale.{Scale}
 use Rattle.levels.specs.declared.Weights.{Weights}
 
--- the level of a sample of each kind
-abbrev pub rgbLevel : LumaSetting → ℕ → Frac
-rgbLevel s v = level (rgbScale (s .«rgb_full») (s .depths .rgb)) v
+-- the scale of each kind of sample
+abbrev pub rgbOf : LumaSetting → Scale
+rgbOf s = rgbScale (s .«rgb_full») (s .depths .rgb)
 
-abbrev pub lumaLevel : LumaSetting → ℕ → Frac
-lumaLevel s v = level (lumaScale (s .«ycc_full») (s .depths .luma)) v
+abbrev pub lumaOf : LumaSetting → Scale
+lumaOf s = lumaScale (s .«ycc_full») (s .depths .luma)
 
-abbrev pub chromaLevel : LumaSetting → ℕ → Frac
-chromaLevel s v = level (chromaScale (s .«ycc_full») (s .depths .chroma)) v
+abbrev pub chromaOf : LumaSetting → Scale
+chromaOf s = chromaScale (s .«ycc_full») (s .depths .chroma)
 
 -- a formula of the levels of R, G, B, and one of the levels of Y, Cb, Cr
 abbrev pub ofRgb : LumaSetting → (Frac → Frac → Frac → Frac) → Pixel → Frac
-ofRgb s f p = f (rgbLevel s (p .p0)) (rgbLevel s (p .p1)) (rgbLevel s (p .p2))
+ofRgb s f p = f (level (rgbOf s) (p .p0)) (level (rgbOf s) (p .p1)) (level (rgbOf s) (p .p2))
 
 abbrev pub ofYcc : LumaSetting → (Frac → Frac → Frac → Frac) → Pixel → Frac
-ofYcc s f p = f (lumaLevel s (p .p0)) (chromaLevel s (p .p1)) (chromaLevel s (p .p2))
+ofYcc s f p = f (level (lumaOf s) (p .p0)) (level (chromaOf s) (p .p1)) (level (chromaOf s) (p .p2))
 
 -- a level written in a plane of each kind
 abbrev pub toRgb : LumaSetting → Frac → ℕ

@@ -4,6 +4,7 @@ use Prim.Native.Nat.{ℕ, _*_, _-_, _^_}
 use lib.IntN.{pos, _+ℤ_, _-ℤ_}
 use Rattle.whole.specs.Whole.{Clip}
 use Rattle.fraction.specs.Fraction.{Frac, _⊕_, _⊖_, _⊗_, _÷_, part, whole, _≈_, Round}
+use Rattle.sample.specs.Depth.{M, H}
 use Rattle.sample.specs.declared.RgbDepth.{RgbDepth}
 use Rattle.sample.specs.declared.LumaDepth.{LumaDepth}
 use Rattle.sample.specs.declared.ChromaDepth.{ChromaDepth}
@@ -16,14 +17,6 @@ allParts = 10000
 
 abbrev pub weights : ℕ → ℕ → Weights
 weights kr kb = record { kr = kr; kg = allParts - kr - kb; kb = kb; all = allParts }
-
--- M, the largest sample of a depth
-abbrev pub M : ℕ → ℕ
-M d = 2 ^ d - 1
-
--- H, half the samples of a chroma depth
-abbrev pub H : ℕ → ℕ
-H d = 2 ^ (d - 1)
 
 -- 2^s, where s is the depth less 8
 abbrev pub S : ℕ → ℕ

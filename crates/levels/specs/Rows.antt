@@ -1,5 +1,5 @@
 -- The six formulas as rows: three signed weights over one denominator.
-use Prim.Native.Nat.{ℕ, _+_, _*_}
+use Prim.Native.Nat.{_+_, _*_}
 use lib.IntN.{ℤ, pos, _+ℤ_, _-ℤ_, _*ℤ_}
 use Rattle.levels.specs.declared.Weights.{Weights}
 use Rattle.levels.specs.declared.rows.Row.{Row}
@@ -10,10 +10,6 @@ sumOf w x y z =
     (pos (w .up0) -ℤ pos (w .down0)) *ℤ x
     +ℤ (pos (w .up1) -ℤ pos (w .down1)) *ℤ y
     +ℤ (pos (w .up2) -ℤ pos (w .down2)) *ℤ z
-
--- all that a row adds and takes away
-abbrev pub total : Row → ℕ
-total w = w .up0 + w .up1 + w .up2 + w .down0 + w .down1 + w .down2
 
 -- EY
 abbrev pub rowY : Weights → Row

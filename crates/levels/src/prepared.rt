@@ -6,9 +6,10 @@ use crate::rows::Row;
 use sample::Pixel;
 ghost use mathlib.Core.Path.{_≡_};
 ghost use Rattle.sample.specs.Depth.{Depth};
-ghost use Rattle.levels.specs.Paper.{M};
+ghost use Rattle.sample.specs.Depth.{M};
 ghost use Rattle.levels.specs.Luma.{SamplesServed};
-ghost use Rattle.levels.specs.Lines.{targetOf, sourcesOfRgb, sourcesOfYcc, spread, lineOf, sampleOf, pixelOf, ScaleServed, SpreadServed, LineServed, Room, Rooms};
+ghost use Rattle.levels.specs.Lines.{targetOf, sourcesOfRgb, sourcesOfYcc, spread, lineOf, sampleOf, pixelOf};
+ghost use Rattle.levels.specs.Room.{ScaleServed, SpreadServed, LineServed, Room, Rooms};
 
 // How a level E is written: Clip(Round(times E + plus) + mid) into 0..top.
 pub struct Target {

@@ -1,8 +1,7 @@
 -- The conversion of one pixel, by the formulas of the setting's family.
 use mathlib.Core.Bool.{Bool, true, false, cond}
-use Prim.Native.Nat.{ℕ}
 use lib.Dec.{eqb}
-use Rattle.sample.specs.Depth.{Inside, InsideRGB, InsideYCC}
+use Rattle.sample.specs.Depth.{M, InsideRGB, InsideYCC}
 use Rattle.sample.specs.declared.Depths.{Depths}
 use Rattle.sample.specs.declared.Pixel.{Pixel}
 use Rattle.ycgco.specs.YCgCo.{lossyForward, lossyReverse, losslessForward, losslessReverse}
@@ -62,6 +61,11 @@ convert w s p = convertBy w (s .family) s p
 abbrev pub InsideSource : Way → Depths → Pixel → Type 0
 InsideSource Forward d p = InsideRGB d p
 InsideSource Reverse d p = InsideYCC d p
+
+-- the largest sample of each of those planes
+abbrev pub tops : Way → Depths → Pixel
+tops Forward d = record { p0 = M (d .rgb .0); p1 = M (d .rgb .0); p2 = M (d .rgb .0) }
+tops Reverse d = record { p0 = M (d .luma .0); p1 = M (d .chroma .0); p2 = M (d .chroma .0) }
 
 -- the call that a conversion is
 abbrev pub callOf : Way → Call

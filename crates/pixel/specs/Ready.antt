@@ -10,6 +10,12 @@ use Rattle.setting.specs.declared.matrix.Family.the-variants.{Identity, Luma, Y
 use Rattle.setting.specs.declared.verdict.Served.{Served}
 use Rattle.pixel.specs.Pixel.{lumaSetting}
 
+-- three depths
+pub record ThreeDepths (d : Depths) : Type 0 where
+  pub rgb : Depth (d .rgb .0)
+  pub luma : Depth (d .luma .0)
+  pub chroma : Depth (d .chroma .0)
+
 -- the depths of code 8
 pub record DepthsOf8 (d : Depths) : Type 0 where
   pub rgb : Depth (d .rgb .0)

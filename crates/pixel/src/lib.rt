@@ -1,15 +1,17 @@
 // One pixel, both ways: the family sorts the formulas, and what a luma matrix needs is prepared once.
 ghost use mathlib.Core.Path.{_≡_};
-ghost use Rattle.sample.specs.Depth.{InsideRGB, InsideYCC};
+ghost use Prim.Native.Nat.{_≤_};
+ghost use Rattle.sample.specs.Depth.{M, InsideRGB, InsideYCC};
 ghost use Rattle.ycgco.specs.YCgCo.{Plain, Roomy};
 ghost use Rattle.levels.specs.Luma.{LumaServed, SamplesServed};
-ghost use Rattle.pixel.specs.Pixel.{swap, lossy, lossless, luma, lines, ycgco8, preparedFor, convert, InsideSource};
-ghost use Rattle.pixel.specs.Ready.{DepthsOf8, Ready};
+ghost use Rattle.pixel.specs.Pixel.{swap, lossy, lossless, luma, lines, ycgco8, preparedFor, convert, InsideSource, callOf, tops};
+ghost use Rattle.pixel.specs.Ready.{ThreeDepths, DepthsOf8, Ready};
 ghost use Rattle.pixel.specs.Source.{samePixel, hasSource};
 use levels::Lines;
 use levels::LumaSetting;
 use sample::Depths;
 use sample::Pixel;
+use setting::Call;
 use setting::matrix::Family;
 use setting::verdict::Served;
 
@@ -22,6 +24,46 @@ pub enum Way {
 pub enum Prepared {
     Lines(Lines),
     Nothing,
+}
+
+pub fn call_of(way: Way) -> Call
+    ensures { λ r. ⌜ r ≡ callOf way ⌝ }
+{
+    match way {
+        Way::Forward => Call::Forward,
+        Way::Reverse => Call::Reverse,
+    }
+}
+
+// The largest sample of a depth.
+pub fn top_of(depth: u8) -> u16
+    requires { ⌜ depth ≤ 16 ⌝ }
+    ensures { λ r. ⌜ r ≡ M depth ⌝ }
+{
+    let count = sample::power(depth);
+    (count - 1) as u16
+}
+
+// The largest sample of each plane that a conversion takes.
+pub fn tops(way: Way, d: Depths) -> Pixel
+    requires { ⌜ ThreeDepths d ⌝ }
+    ensures { λ r. ⌜ r ≡ tops way d ⌝ }
+{
+    let rgb = top_of(d.rgb.0);
+    let luma = top_of(d.luma.0);
+    let chroma = top_of(d.chroma.0);
+    match way {
+        Way::Forward => Pixel {
+            p0: rgb,
+            p1: rgb,
+            p2: rgb,
+        },
+        Way::Reverse => Pixel {
+            p0: luma,
+            p1: chroma,
+            p2: chroma,
+        },
+    }
 }
 
 fn swap(way: Way, p: Pixel) -> Pixel

@@ -1,7 +1,7 @@
 -- A depth is a number from 8 to 16; with a luma matrix it is at most 12. These three numbers stand here alone.
 use mathlib.Core.Path.{_≡_}
 use mathlib.Core.Bool.{Bool, true, false, _&&_, cond}
-use Prim.Native.Nat.{ℕ, _^_, _≤_, _<_}
+use Prim.Native.Nat.{ℕ, _-_, _^_, _≤_, _<_}
 use lib.Dec.{leb}
 use Rattle.sample.specs.declared.RgbDepth.{RgbDepth}
 use Rattle.sample.specs.declared.LumaDepth.{LumaDepth}
@@ -68,6 +68,14 @@ depthsChecked r y c = cond (areDepths r y c) (depths.Depths (depthsOf r y c)) de
 -- whether no depth is above n
 unfoldable pub atMost : ℕ → Depths → Bool
 atMost n d = leb (d .rgb .0) n && (leb (d .luma .0) n && leb (d .chroma .0) n)
+
+-- M, the largest sample of a depth
+abbrev pub M : ℕ → ℕ
+M depth = 2 ^ depth - 1
+
+-- H, the middle of a plane of a chroma depth
+abbrev pub H : ℕ → ℕ
+H depth = 2 ^ (depth - 1)
 
 -- r is 2^bits, of at most 16 bits
 pub record Power (bits r : ℕ) : Type 0 where

@@ -1,10 +1,11 @@
 -- `levels::forward_lines` meets its contract: what it makes each line of is what the definition does, and the line has room.
 use mathlib.Core.Path.{_≡_, _∙_, ap}
 use borrow.Author.Needs.{needs}
+use Rattle.levels.specs.Luma.{rgbOf}
 use Rattle.levels.specs.Rows.{rowY, rowPB, rowPR}
 use Rattle.levels.specs.Lines.{targetOf, sourcesOfRgb, lumaTarget, chromaTarget, forwardLines}
 use Rattle.levels.proofs.Bounds.{y-served, pb-served, pr-served}
-use Rattle.levels.proofs.Served.{rgb, into-luma, into-chroma, line-made, line-served}
+use Rattle.levels.proofs.Served.{into-luma, into-chroma, line-made, line-served}
 use Rattle.levels.proofs.forward_lines.Statement.{statement}
 use Rattle.levels.proofs.forward_lines.Tie as tie
 
@@ -12,13 +13,13 @@ use Rattle.levels.proofs.forward_lines.Tie as tie
 abbrev start : tie.After-row-pr → tie.Start
 start c = c .before .before .before .before .before .before .before .before .before .before .before .before .before .before
 
-from-is : (c : tie.After-row-pr) → c .before .before .before .before .before .before .before .sources-of-rgb .result ≡ sourcesOfRgb (rgb (start c .args .s))
+from-is : (c : tie.After-row-pr) → c .before .before .before .before .before .before .before .sources-of-rgb .result ≡ sourcesOfRgb (rgbOf (start c .args .s))
 from-is c = c .before .before .before .before .before .before .before .sources-of-rgb .ensures ∙ ap sourcesOfRgb (c .before .before .before .before .before .before .before .before .rgb-scale .ensures)
 
-luma-is : (c : tie.After-row-pr) → c .before .before .before .before .target-of .result ≡ lumaTarget (start c .args .s .«ycc_full») (start c .args .s .depths .luma)
+luma-is : (c : tie.After-row-pr) → c .before .before .before .before .target-of .result ≡ lumaTarget (start c .args .s)
 luma-is c = c .before .before .before .before .target-of .ensures ∙ ap (λ s. targetOf (start c .args .s .«ycc_full») s (start c .args .s .depths .luma .0)) (c .before .before .before .before .before .before .luma-scale .ensures)
 
-chroma-is : (c : tie.After-row-pr) → c .before .before .before .target-of2 .result ≡ chromaTarget (start c .args .s .«ycc_full») (start c .args .s .depths .chroma)
+chroma-is : (c : tie.After-row-pr) → c .before .before .before .target-of2 .result ≡ chromaTarget (start c .args .s)
 chroma-is c = c .before .before .before .target-of2 .ensures ∙ ap (λ s. targetOf (start c .args .s .«ycc_full») s (start c .args .s .depths .chroma .0)) (c .before .before .before .before .before .chroma-scale .ensures)
 
 rgb-scale-requires : tie.Need-rgb-scale-requires

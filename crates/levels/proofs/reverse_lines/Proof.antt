@@ -1,10 +1,11 @@
 -- `levels::reverse_lines` meets its contract: what it makes each line of is what the definition does, and the line has room.
 use mathlib.Core.Path.{_≡_, _∙_, ap}
 use borrow.Author.Needs.{needs}
+use Rattle.levels.specs.Luma.{lumaOf, chromaOf}
 use Rattle.levels.specs.Rows.{rowR, rowG, rowB}
 use Rattle.levels.specs.Lines.{targetOf, sourcesOfYcc, rgbTarget, reverseLines}
 use Rattle.levels.proofs.Bounds.{r-served, g-served, b-served}
-use Rattle.levels.proofs.Served.{luma, chroma, luma-served, chroma-served, into-rgb, line-made, line-served}
+use Rattle.levels.proofs.Served.{luma-served, chroma-served, into-rgb, line-made, line-served}
 use Rattle.levels.proofs.reverse_lines.Statement.{statement}
 use Rattle.levels.proofs.reverse_lines.Tie as tie
 
@@ -12,10 +13,10 @@ use Rattle.levels.proofs.reverse_lines.Tie as tie
 abbrev start : tie.After-row-b → tie.Start
 start c = c .before .before .before .before .before .before .before .before .before .before .before .before .before
 
-from-is : (c : tie.After-row-b) → c .before .before .before .before .before .sources-of-ycc .result ≡ sourcesOfYcc (luma (start c .args .s)) (chroma (start c .args .s))
+from-is : (c : tie.After-row-b) → c .before .before .before .before .before .sources-of-ycc .result ≡ sourcesOfYcc (lumaOf (start c .args .s)) (chromaOf (start c .args .s))
 from-is c = c .before .before .before .before .before .sources-of-ycc .ensures ∙ (λ i. sourcesOfYcc (c .before .before .before .before .before .before .before .luma-scale .ensures i) (c .before .before .before .before .before .before .chroma-scale .ensures i))
 
-rgb-is : (c : tie.After-row-b) → c .before .before .before .target-of .result ≡ rgbTarget (start c .args .s .«rgb_full») (start c .args .s .depths .rgb)
+rgb-is : (c : tie.After-row-b) → c .before .before .before .target-of .result ≡ rgbTarget (start c .args .s)
 rgb-is c = c .before .before .before .target-of .ensures ∙ ap (λ s. targetOf (start c .args .s .«rgb_full») s (start c .args .s .depths .rgb .0)) (c .before .before .before .before .rgb-scale .ensures)
 
 luma-scale-requires : tie.Need-luma-scale-requires

@@ -1,0 +1,57 @@
+-- `corkplover::admit::admit` meets its contract: a refusal by the setting stands, and else the samples are asked.
+use mathlib.Core.Path.{_≡_, sym, ap, _∙_}
+use Rattle.plane.specs.declared.search.Found.{Found}
+use Rattle.refusal.specs.declared.Refusal.{Refusal}
+use Rattle.setting.specs.Refusals.{depths, served, verdictOf}
+use Rattle.setting.specs.declared.Call.the-variants as call
+use Rattle.setting.specs.declared.verdict.Verdict.{Verdict}
+use Rattle.setting.specs.declared.verdict.Verdict.the-variants as verdict
+use Rattle.corkplover.specs.Admit.{badPixel, past, admitted}
+use Rattle.corkplover.proofs.AdmitLaws.{refused-stays, verdict-ready, verdict-is, three}
+use borrow.Author.Needs.{needs}
+use Rattle.corkplover.proofs.admit.admit.Statement.{statement}
+use Rattle.corkplover.proofs.admit.admit.Tie as tie
+
+judge-requires : tie.Need-judge-requires
+judge-requires c κs = search needs
+
+enum-told : tie.Need-enum-told
+enum-told c = search needs
+
+enum-known-v : tie.Need-enum-known-v
+enum-known-v c = search needs
+
+bad-pixel-requires : tie.Need-bad-pixel-requires
+bad-pixel-requires c κs =
+    let a = c .before .before .before .before .before .args in
+    three (verdict-ready (a .call) (a .s) _ (sym (c .before .before .before .before .judge .ensures) ∙ c .before .before .v .given .1))
+
+past-requires : tie.Need-past-requires
+past-requires c κs = search needs
+
+returns : tie.Need-returns
+unfolding admitted
+returns c =
+    let a = c .before .before .before .args in
+    let f = badPixel (a .way) (depths (a .s)) (a .p) in
+    refused-stays _ f _ (c .enum-told .given .1) ∙ ap (λ u. past u f) (c .before .before .judge .ensures)
+
+returns-2 : tie.Need-returns-2
+unfolding admitted
+returns-2 c =
+    let a = c .before .before .before .before .before .before .before .args in
+    let e = sym (c .before .before .before .before .v .given .1) ∙ c .before .before .before .before .before .before .judge .ensures in
+    let k = verdict-is (a .call) (a .s) _ (sym e) in
+    c .past .ensures ∙ (λ i. past (e i) (c .before .bad-pixel .ensures i)) ∙ ap (λ y. past (verdictOf (a .call) (a .s)) (badPixel (a .way) (y .depths) (a .p))) (sym k)
+
+pub admit-spec : {M : Type 1} → statement M
+admit-spec =
+    tie.close
+    (tie.spec
+    judge-requires
+    enum-told
+    enum-known-v
+    bad-pixel-requires
+    past-requires
+    returns
+    returns-2)

@@ -1,0 +1,57 @@
+-- `corkplover::admit::admit_one` meets its contract: a refusal by the setting stands, and else the samples are asked.
+use mathlib.Core.Path.{_≡_, sym, ap, _∙_}
+use Rattle.plane.specs.declared.search.Found.{Found}
+use Rattle.refusal.specs.declared.Refusal.{Refusal}
+use Rattle.setting.specs.Refusals.{depths, served, verdictOf}
+use Rattle.setting.specs.declared.Call.the-variants as call
+use Rattle.setting.specs.declared.verdict.Verdict.{Verdict}
+use Rattle.setting.specs.declared.verdict.Verdict.the-variants as verdict
+use Rattle.corkplover.specs.Admit.{badOne, past, admittedOne}
+use Rattle.corkplover.proofs.AdmitLaws.{refused-stays, verdict-ready, verdict-is, three}
+use borrow.Author.Needs.{needs}
+use Rattle.corkplover.proofs.admit.admit_one.Statement.{statement}
+use Rattle.corkplover.proofs.admit.admit_one.Tie as tie
+
+judge-requires : tie.Need-judge-requires
+judge-requires c κs = search needs
+
+enum-told : tie.Need-enum-told
+enum-told c = search needs
+
+enum-known-verdict : tie.Need-enum-known-verdict
+enum-known-verdict c = search needs
+
+bad-one-requires : tie.Need-bad-one-requires
+bad-one-requires c κs =
+    let a = c .before .before .before .before .before .args in
+    three (verdict-ready call.Meter (a .s) _ (sym (c .before .before .before .before .judge .ensures) ∙ c .before .before .verdict .given .1))
+
+past-requires : tie.Need-past-requires
+past-requires c κs = search needs
+
+returns : tie.Need-returns
+unfolding admittedOne
+returns c =
+    let a = c .before .before .before .args in
+    let f = badOne (a .kind) (depths (a .s)) (a .v) in
+    refused-stays _ f _ (c .enum-told .given .1) ∙ ap (λ u. past u f) (c .before .before .judge .ensures)
+
+returns-2 : tie.Need-returns-2
+unfolding admittedOne
+returns-2 c =
+    let a = c .before .before .before .before .before .before .before .args in
+    let e = sym (c .before .before .before .before .verdict .given .1) ∙ c .before .before .before .before .before .before .judge .ensures in
+    let k = verdict-is call.Meter (a .s) _ (sym e) in
+    c .past .ensures ∙ (λ i. past (e i) (c .before .bad-one .ensures i)) ∙ ap (λ y. past (verdictOf call.Meter (a .s)) (badOne (a .kind) (y .depths) (a .v))) (sym k)
+
+pub admit-one-spec : {M : Type 1} → statement M
+admit-one-spec =
+    tie.close
+    (tie.spec
+    judge-requires
+    enum-told
+    enum-known-verdict
+    bad-one-requires
+    past-requires
+    returns
+    returns-2)

@@ -1,0 +1,35 @@
+-- The exported Cr meter is the reading, packed, with its level written through.
+use mathlib.Core.Path.{_≡_, ap, _∙_}
+use Rattle.meter.specs.declared.SampleKind.the-variants.{Cr}
+use Rattle.corkplover.specs.Answers.{reading}
+use Rattle.corkplover.specs.Packing.{packedReading, levelIn}
+use borrow.Author.Needs.{needs}
+use Rattle.corkplover.proofs.exports.corkplover_meter_cr.Statement.{statement}
+use Rattle.corkplover.proofs.exports.corkplover_meter_cr.Tie as tie
+
+setting-of-requires : tie.Need-setting-of-requires
+setting-of-requires c κs = search needs
+
+meter-sample-requires : tie.Need-meter-sample-requires
+meter-sample-requires c κs = search needs
+
+level-in-requires : tie.Need-level-in-requires
+level-in-requires c κs = search needs
+
+pack-reading-requires : tie.Need-pack-reading-requires
+pack-reading-requires c κs = search needs
+
+returns : tie.Need-returns
+returns c =
+    let e = c .before .before .meter-sample .ensures ∙ ap (λ s. reading Cr s (c .before .before .before .before .args .v)) (c .before .before .before .setting-of .ensures) in
+    (c .pack-reading .ensures ∙ ap packedReading e, c .before .level-in .ensures ∙ ap levelIn e)
+
+pub corkplover-meter-cr-spec : {M : Type 1} → statement M
+corkplover-meter-cr-spec =
+    tie.close
+    (tie.spec
+    setting-of-requires
+    meter-sample-requires
+    level-in-requires
+    pack-reading-requires
+    returns)

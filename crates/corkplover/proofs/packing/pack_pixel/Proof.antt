@@ -1,0 +1,33 @@
+-- `corkplover::packing::pack_pixel` meets its contract, case by case.
+use borrow.Author.Needs.{needs}
+use Rattle.corkplover.proofs.packing.pack_pixel.Statement.{statement}
+use Rattle.corkplover.proofs.packing.pack_pixel.Tie as tie
+
+enum-known-answer : tie.Need-enum-known-answer
+enum-known-answer c = search needs
+
+pack-requires : tie.Need-pack-requires
+pack-requires c κs = search needs
+
+enum-known-answer-2 : tie.Need-enum-known-answer-2
+enum-known-answer-2 c = search needs
+
+pack-refusal-requires : tie.Need-pack-refusal-requires
+pack-refusal-requires c κs = search needs
+
+returns : tie.Need-returns
+returns c = rw (c .before .before .answer .given .1) (c .pack .ensures)
+
+returns-2 : tie.Need-returns-2
+returns-2 c = rw (c .before .before .answer2 .given .1) (c .pack-refusal .ensures)
+
+pub pack-pixel-spec : {M : Type 1} → statement M
+pack-pixel-spec =
+    tie.close
+    (tie.spec
+    enum-known-answer
+    pack-requires
+    enum-known-answer-2
+    pack-refusal-requires
+    returns
+    returns-2)

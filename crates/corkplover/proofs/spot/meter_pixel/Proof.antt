@@ -1,0 +1,44 @@
+-- `corkplover::spot::meter_pixel` meets its contract: a setting that was let in has depths.
+use mathlib.Core.Path.{_≡_, sym, ap, _∙_}
+use Rattle.setting.specs.declared.Call.the-variants as call
+use Rattle.pixel.specs.declared.Way.the-variants.{Reverse}
+use Rattle.corkplover.specs.Answers.{levelsBy, levelsAnswer}
+use Rattle.corkplover.specs.declared.spot.LevelsAnswer.the-variants as answer
+use Rattle.corkplover.proofs.AdmitLaws.{let-in}
+use borrow.Author.Needs.{needs}
+use Rattle.corkplover.proofs.spot.meter_pixel.Statement.{statement}
+use Rattle.corkplover.proofs.spot.meter_pixel.Tie as tie
+
+admit-requires : tie.Need-admit-requires
+admit-requires c κs = search needs
+
+enum-known-refusal : tie.Need-enum-known-refusal
+enum-known-refusal c = search needs
+
+enum-known-served : tie.Need-enum-known-served
+enum-known-served c = search needs
+
+levels-of-requires : tie.Need-levels-of-requires
+levels-of-requires c κs =
+    let a = c .before .before .before .before .before .args in
+    let k = let-in call.Meter Reverse (a .s) (a .p) _ (sym (c .before .before .before .before .admit .ensures) ∙ c .before .before .served .given .1) .is-ready in
+    (k .luma, k .chroma)
+
+returns : tie.Need-returns
+unfolding levelsAnswer
+returns c = rw (← c .before .before .before .admit .ensures, c .before .refusal .given .1)
+
+returns-2 : tie.Need-returns-2
+unfolding levelsAnswer
+returns-2 c = rw (← c .before .before .before .before .before .admit .ensures, c .before .before .before .served .given .1) (ap answer.Levels (c .levels-of .ensures))
+
+pub meter-pixel-spec : {M : Type 1} → statement M
+meter-pixel-spec =
+    tie.close
+    (tie.spec
+    admit-requires
+    enum-known-refusal
+    enum-known-served
+    levels-of-requires
+    returns
+    returns-2)

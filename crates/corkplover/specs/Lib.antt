@@ -1,0 +1,4 @@
+-- What each call answers.
+pub mod Admit
+pub mod Answers
+pub mod Packing

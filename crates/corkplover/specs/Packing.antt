@@ -1,0 +1,77 @@
+-- Answers as one number, for callers in other languages. Bits 0 to 7 are 0 or the refusal's number; a 10 has its plane from bit 8, its
+-- row from bit 16 and its column from bit 32; an accepted pixel has its samples from bits 16, 32 and 48. All other bits are 0.
+use mathlib.Core.Bool.{Bool, true, false}
+use Prim.Native.Nat.{ℕ, _+_, _*_, _/_, _%_}
+use lib.IntN.{pos}
+use lib.Ieee.{Float, fin}
+use Rattle.meter.specs.declared.Levels.{Levels}
+use Rattle.refusal.specs.declared.Refusal.{Refusal}
+use Rattle.setting.specs.declared.Setting.{Setting}
+use Rattle.corkplover.specs.declared.one_pixel.PixelAnswer.{PixelAnswer}
+use Rattle.corkplover.specs.declared.one_pixel.PixelAnswer.the-variants as pixel
+use Rattle.corkplover.specs.declared.spot.Reading.{Reading}
+use Rattle.corkplover.specs.declared.spot.Reading.the-variants as meter
+use Rattle.corkplover.specs.declared.spot.LevelsAnswer.{LevelsAnswer}
+use Rattle.corkplover.specs.declared.spot.LevelsAnswer.the-variants as levels
+
+-- four fields: 8 bits, 8 bits and three times 16 bits
+abbrev pub packed : ℕ → ℕ → ℕ → ℕ → ℕ → ℕ
+packed number second a b c = number + second * 256 + a * 65536 + b * 4294967296 + c * 281474976710656
+
+-- and each of them out again
+abbrev pub numberIn : ℕ → ℕ
+numberIn x = x % 256
+
+abbrev pub secondIn : ℕ → ℕ
+secondIn x = x / 256 % 256
+
+abbrev pub firstIn : ℕ → ℕ
+firstIn x = x / 65536 % 65536
+
+abbrev pub middleIn : ℕ → ℕ
+middleIn x = x / 4294967296 % 65536
+
+abbrev pub lastIn : ℕ → ℕ
+lastIn x = x / 281474976710656 % 65536
+
+abbrev pub packedRefusal : Refusal → ℕ
+packedRefusal r = packed (r .number) (r .place .plane) (r .place .row) (r .place .column) 0
+
+abbrev pub packedPixel : PixelAnswer → ℕ
+packedPixel (pixel.Converted p) = packed 0 0 (p .p0) (p .p1) (p .p2)
+packedPixel (pixel.Refused r) = packedRefusal r
+
+-- the meter's number is 0 where it is accepted; the levels go where the caller said, and are 0 on a refusal
+abbrev pub packedReading : Reading → ℕ
+packedReading (meter.Level x) = 0
+packedReading (meter.Refused r) = packedRefusal r
+
+abbrev pub packedLevels : LevelsAnswer → ℕ
+packedLevels (levels.Levels x) = 0
+packedLevels (levels.Refused r) = packedRefusal r
+
+abbrev pub noLevel : Float
+noLevel = fin false 0 (pos 0)
+
+abbrev pub levelIn : Reading → Float
+levelIn (meter.Level x) = x
+levelIn (meter.Refused r) = noLevel
+
+abbrev pub levelsIn : LevelsAnswer → Levels
+levelsIn (levels.Levels x) = x
+levelsIn (levels.Refused r) = record { y = noLevel; cb = noLevel; cr = noLevel }
+
+abbrev pub yIn : LevelsAnswer → Float
+yIn a = levelsIn a .y
+
+abbrev pub cbIn : LevelsAnswer → Float
+cbIn a = levelsIn a .cb
+
+abbrev pub crIn : LevelsAnswer → Float
+crIn a = levelsIn a .cr
+
+-- a setting of eight parameters
+abbrev pub setting : ℕ → ℕ → ℕ → ℕ → ℕ → ℕ → Bool → Bool → Setting
+setting p t m r y c rf yf =
+    record
+    { primaries = p; transfer = t; matrix = m; «rgb_depth» = r; «y_depth» = y; «c_depth» = c; «rgb_full» = rf; «ycc_full» = yf }

@@ -1,0 +1,89 @@
+// Who is let in: rows 1 to 7 and 11 by the setting, then 10 by the samples that the call was handed.
+ghost use mathlib.Core.Path.{_≡_};
+ghost use Rattle.pixel.specs.Ready.{ThreeDepths};
+ghost use Rattle.sample.specs.Depth.{Depth};
+ghost use Rattle.corkplover.specs.Admit.{badPixel, past, admitted, badOne, admittedOne, topOf};
+use meter::SampleKind;
+use pixel::Way;
+use plane::search::Found;
+use refusal::Refusal;
+use sample::Depths;
+use sample::Pixel;
+use setting::Call;
+use setting::Setting;
+use setting::verdict::Verdict;
+
+// A pixel is a picture of one row and one column.
+fn bad_pixel(way: Way, d: Depths, p: Pixel) -> Found
+    requires { ⌜ ThreeDepths d ⌝ }
+    ensures { λ r. ⌜ r ≡ badPixel way d p ⌝ }
+{
+    let t = pixel::tops(way, d);
+    let a = [p.p0];
+    let b = [p.p1];
+    let c = [p.p2];
+    plane::search::first_bad_of_three(&a, &b, &c, 1, 1, 1, t.p0, t.p1, t.p2)
+}
+
+// A place that was found refuses what was served.
+fn past(v: Verdict, found: Found) -> Verdict
+    ensures { λ r. ⌜ r ≡ past v found ⌝ }
+{
+    match v {
+        Verdict::Refused(_) => v,
+        Verdict::Served(_) => match found {
+            Found::At(place) => Verdict::Refused(Refusal::bad_at(place)),
+            Found::Nothing => v,
+        },
+    }
+}
+
+// The setting in checked kinds, or the refusal of a call on a whole pixel.
+pub fn admit(call: Call, way: Way, s: Setting, p: Pixel) -> Verdict
+    ensures { λ r. ⌜ r ≡ admitted call way s p ⌝ }
+{
+    let v = setting::verdict::judge(call, s);
+    match v {
+        Verdict::Refused(_) => v,
+        Verdict::Served(served) => {
+            let depths = served.depths;
+            past(v, bad_pixel(way, depths, p))
+        }
+    }
+}
+
+// The largest sample of a kind.
+fn top_of(kind: SampleKind, d: Depths) -> u16
+    requires { ⌜ ThreeDepths d ⌝ }
+    ensures { λ r. ⌜ r ≡ topOf kind d ⌝ }
+{
+    match kind {
+        SampleKind::Y => pixel::top_of(d.luma.0),
+        SampleKind::Cb => pixel::top_of(d.chroma.0),
+        SampleKind::Cr => pixel::top_of(d.chroma.0),
+    }
+}
+
+fn bad_one(kind: SampleKind, d: Depths, v: u16) -> Found
+    requires { ⌜ ThreeDepths d ⌝ }
+    ensures { λ r. ⌜ r ≡ badOne kind d v ⌝ }
+{
+    let top = top_of(kind, d);
+    let plane = meter::plane_of(kind);
+    let a = [v];
+    plane::search::first_bad(&a, plane, 1, 1, 1, top)
+}
+
+// The same for the meter on one sample, which alone is tested.
+pub fn admit_one(kind: SampleKind, s: Setting, v: u16) -> Verdict
+    ensures { λ r. ⌜ r ≡ admittedOne kind s v ⌝ }
+{
+    let verdict = setting::verdict::judge(Call::Meter, s);
+    match verdict {
+        Verdict::Refused(_) => verdict,
+        Verdict::Served(served) => {
+            let depths = served.depths;
+            past(verdict, bad_one(kind, depths, v))
+        }
+    }
+}

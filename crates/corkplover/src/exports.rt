@@ -1,0 +1,242 @@
+// The calls for C and for every language that can call C: plain numbers and slices. A setting is eight parameters in one order, and an
+// answer is one number (specs/Packing.antt).
+ghost use mathlib.Core.Path.{_≡_};
+ghost use Rattle.setting.specs.Label.{primariesLabel, transferLabel, matrixLabel, labelNumber};
+ghost use Rattle.pixel.specs.declared.Way.the-variants.{Forward, Reverse};
+ghost use Rattle.meter.specs.declared.SampleKind.the-variants.{Y, Cb, Cr};
+ghost use Rattle.corkplover.specs.Answers.{pixelAnswer, reading, levelsAnswer};
+ghost use Rattle.corkplover.specs.Packing.{setting, packedPixel, packedReading, packedLevels, levelIn, yIn, cbIn, crIn};
+use crate::labels;
+use crate::one_pixel;
+use crate::packing;
+use crate::packing::setting_of;
+use crate::spot;
+use meter::SampleKind;
+use sample::Pixel;
+
+#[no_mangle]
+pub extern "C" fn corkplover_primaries_label(code: u8) -> u8
+    ensures { λ r. ⌜ r ≡ labelNumber (primariesLabel code) ⌝ }
+{
+    packing::label_number(labels::primaries_label(code))
+}
+
+#[no_mangle]
+pub extern "C" fn corkplover_transfer_label(code: u8) -> u8
+    ensures { λ r. ⌜ r ≡ labelNumber (transferLabel code) ⌝ }
+{
+    packing::label_number(labels::transfer_label(code))
+}
+
+#[no_mangle]
+pub extern "C" fn corkplover_matrix_label(code: u8) -> u8
+    ensures { λ r. ⌜ r ≡ labelNumber (matrixLabel code) ⌝ }
+{
+    packing::label_number(labels::matrix_label(code))
+}
+
+#[no_mangle]
+pub extern "C" fn corkplover_forward_pixel(
+    primaries: u8,
+    transfer: u8,
+    matrix: u8,
+    rgbdepth: u8,
+    ydepth: u8,
+    cdepth: u8,
+    rgbfull: bool,
+    yccfull: bool,
+    r: u16,
+    g: u16,
+    b: u16,
+) -> u64
+    ensures { λ x. ⌜ x ≡ packedPixel (pixelAnswer Forward (setting primaries transfer matrix rgbdepth ydepth cdepth rgbfull yccfull) (record { p0 = r; p1 = g; p2 = b })) ⌝ }
+{
+    let s = setting_of(
+        primaries,
+        transfer,
+        matrix,
+        rgbdepth,
+        ydepth,
+        cdepth,
+        rgbfull,
+        yccfull,
+    );
+    let p = Pixel {
+        p0: r,
+        p1: g,
+        p2: b,
+    };
+    packing::pack_pixel(one_pixel::forward_pixel(s, p))
+}
+
+#[no_mangle]
+pub extern "C" fn corkplover_reverse_pixel(
+    primaries: u8,
+    transfer: u8,
+    matrix: u8,
+    rgbdepth: u8,
+    ydepth: u8,
+    cdepth: u8,
+    rgbfull: bool,
+    yccfull: bool,
+    y: u16,
+    cb: u16,
+    cr: u16,
+) -> u64
+    ensures { λ x. ⌜ x ≡ packedPixel (pixelAnswer Reverse (setting primaries transfer matrix rgbdepth ydepth cdepth rgbfull yccfull) (record { p0 = y; p1 = cb; p2 = cr })) ⌝ }
+{
+    let s = setting_of(
+        primaries,
+        transfer,
+        matrix,
+        rgbdepth,
+        ydepth,
+        cdepth,
+        rgbfull,
+        yccfull,
+    );
+    let p = Pixel {
+        p0: y,
+        p1: cb,
+        p2: cr,
+    };
+    packing::pack_pixel(one_pixel::reverse_pixel(s, p))
+}
+
+#[no_mangle]
+pub extern "C" fn corkplover_meter_y(
+    primaries: u8,
+    transfer: u8,
+    matrix: u8,
+    rgbdepth: u8,
+    ydepth: u8,
+    cdepth: u8,
+    rgbfull: bool,
+    yccfull: bool,
+    v: u16,
+    level: &mut f32,
+) -> u64
+    ensures { λ x. ⌜ x ≡ packedReading (reading Y (setting primaries transfer matrix rgbdepth ydepth cdepth rgbfull yccfull) v) ⌝ }
+    ensures { λ x. ⌜ now (level .exit) ≡ levelIn (reading Y (setting primaries transfer matrix rgbdepth ydepth cdepth rgbfull yccfull) v) ⌝ }
+{
+    let s = setting_of(
+        primaries,
+        transfer,
+        matrix,
+        rgbdepth,
+        ydepth,
+        cdepth,
+        rgbfull,
+        yccfull,
+    );
+    let answer = spot::meter_sample(SampleKind::Y, s, v);
+    *level = packing::level_in(answer);
+    packing::pack_reading(answer)
+}
+
+#[no_mangle]
+pub extern "C" fn corkplover_meter_cb(
+    primaries: u8,
+    transfer: u8,
+    matrix: u8,
+    rgbdepth: u8,
+    ydepth: u8,
+    cdepth: u8,
+    rgbfull: bool,
+    yccfull: bool,
+    v: u16,
+    level: &mut f32,
+) -> u64
+    ensures { λ x. ⌜ x ≡ packedReading (reading Cb (setting primaries transfer matrix rgbdepth ydepth cdepth rgbfull yccfull) v) ⌝ }
+    ensures { λ x. ⌜ now (level .exit) ≡ levelIn (reading Cb (setting primaries transfer matrix rgbdepth ydepth cdepth rgbfull yccfull) v) ⌝ }
+{
+    let s = setting_of(
+        primaries,
+        transfer,
+        matrix,
+        rgbdepth,
+        ydepth,
+        cdepth,
+        rgbfull,
+        yccfull,
+    );
+    let answer = spot::meter_sample(SampleKind::Cb, s, v);
+    *level = packing::level_in(answer);
+    packing::pack_reading(answer)
+}
+
+#[no_mangle]
+pub extern "C" fn corkplover_meter_cr(
+    primaries: u8,
+    transfer: u8,
+    matrix: u8,
+    rgbdepth: u8,
+    ydepth: u8,
+    cdepth: u8,
+    rgbfull: bool,
+    yccfull: bool,
+    v: u16,
+    level: &mut f32,
+) -> u64
+    ensures { λ x. ⌜ x ≡ packedReading (reading Cr (setting primaries transfer matrix rgbdepth ydepth cdepth rgbfull yccfull) v) ⌝ }
+    ensures { λ x. ⌜ now (level .exit) ≡ levelIn (reading Cr (setting primaries transfer matrix rgbdepth ydepth cdepth rgbfull yccfull) v) ⌝ }
+{
+    let s = setting_of(
+        primaries,
+        transfer,
+        matrix,
+        rgbdepth,
+        ydepth,
+        cdepth,
+        rgbfull,
+        yccfull,
+    );
+    let answer = spot::meter_sample(SampleKind::Cr, s, v);
+    *level = packing::level_in(answer);
+    packing::pack_reading(answer)
+}
+
+#[no_mangle]
+pub extern "C" fn corkplover_meter_pixel(
+    primaries: u8,
+    transfer: u8,
+    matrix: u8,
+    rgbdepth: u8,
+    ydepth: u8,
+    cdepth: u8,
+    rgbfull: bool,
+    yccfull: bool,
+    y: u16,
+    cb: u16,
+    cr: u16,
+    ylevel: &mut f32,
+    cblevel: &mut f32,
+    crlevel: &mut f32,
+) -> u64
+    ensures { λ x. ⌜ x ≡ packedLevels (levelsAnswer (setting primaries transfer matrix rgbdepth ydepth cdepth rgbfull yccfull) (record { p0 = y; p1 = cb; p2 = cr })) ⌝ }
+    ensures { λ x. ⌜ now (ylevel .exit) ≡ yIn (levelsAnswer (setting primaries transfer matrix rgbdepth ydepth cdepth rgbfull yccfull) (record { p0 = y; p1 = cb; p2 = cr })) ⌝ }
+    ensures { λ x. ⌜ now (cblevel .exit) ≡ cbIn (levelsAnswer (setting primaries transfer matrix rgbdepth ydepth cdepth rgbfull yccfull) (record { p0 = y; p1 = cb; p2 = cr })) ⌝ }
+    ensures { λ x. ⌜ now (crlevel .exit) ≡ crIn (levelsAnswer (setting primaries transfer matrix rgbdepth ydepth cdepth rgbfull yccfull) (record { p0 = y; p1 = cb; p2 = cr })) ⌝ }
+{
+    let s = setting_of(
+        primaries,
+        transfer,
+        matrix,
+        rgbdepth,
+        ydepth,
+        cdepth,
+        rgbfull,
+        yccfull,
+    );
+    let p = Pixel {
+        p0: y,
+        p1: cb,
+        p2: cr,
+    };
+    let answer = spot::meter_pixel(s, p);
+    let levels = packing::levels_in(answer);
+    *ylevel = levels.y;
+    *cblevel = levels.cb;
+    *crlevel = levels.cr;
+    packing::pack_levels(answer)
+}

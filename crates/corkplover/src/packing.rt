@@ -1,0 +1,114 @@
+// Answers as one number, for callers in other languages.
+ghost use mathlib.Core.Path.{_≡_};
+ghost use Rattle.setting.specs.Label.{labelNumber};
+ghost use Rattle.corkplover.specs.Packing.{packed, packedRefusal, packedPixel, packedReading, packedLevels, levelIn, levelsIn, setting};
+use crate::one_pixel::PixelAnswer;
+use crate::spot::LevelsAnswer;
+use crate::spot::Reading;
+use meter::Levels;
+use refusal::Refusal;
+use setting::Setting;
+use setting::label::Label;
+
+// Two fields of 8 bits and three of 16.
+fn pack(number: u8, second: u8, a: u16, b: u16, c: u16) -> u64
+    ensures { λ r. ⌜ r ≡ packed number second a b c ⌝ }
+{
+    number as u64
+        + second as u64 * 256
+        + a as u64 * 65536
+        + b as u64 * 4294967296
+        + c as u64 * 281474976710656
+}
+
+fn pack_refusal(refusal: Refusal) -> u64
+    ensures { λ r. ⌜ r ≡ packedRefusal refusal ⌝ }
+{
+    let number = refusal.number;
+    let place = refusal.place;
+    pack(number, place.plane, place.row, place.column, 0)
+}
+
+pub fn pack_pixel(answer: PixelAnswer) -> u64
+    ensures { λ r. ⌜ r ≡ packedPixel answer ⌝ }
+{
+    match answer {
+        PixelAnswer::Converted(p) => pack(0, 0, p.p0, p.p1, p.p2),
+        PixelAnswer::Refused(refusal) => pack_refusal(refusal),
+    }
+}
+
+pub fn pack_reading(answer: Reading) -> u64
+    ensures { λ r. ⌜ r ≡ packedReading answer ⌝ }
+{
+    match answer {
+        Reading::Level(_) => 0,
+        Reading::Refused(refusal) => pack_refusal(refusal),
+    }
+}
+
+pub fn level_in(answer: Reading) -> f32
+    ensures { λ r. ⌜ r ≡ levelIn answer ⌝ }
+{
+    match answer {
+        Reading::Level(level) => level,
+        Reading::Refused(_) => 0.0,
+    }
+}
+
+pub fn pack_levels(answer: LevelsAnswer) -> u64
+    ensures { λ r. ⌜ r ≡ packedLevels answer ⌝ }
+{
+    match answer {
+        LevelsAnswer::Levels(_) => 0,
+        LevelsAnswer::Refused(refusal) => pack_refusal(refusal),
+    }
+}
+
+pub fn levels_in(answer: LevelsAnswer) -> Levels
+    ensures { λ r. ⌜ r ≡ levelsIn answer ⌝ }
+{
+    match answer {
+        LevelsAnswer::Levels(levels) => levels,
+        LevelsAnswer::Refused(_) => Levels {
+            y: 0.0,
+            cb: 0.0,
+            cr: 0.0,
+        },
+    }
+}
+
+// A setting of eight parameters.
+pub fn setting_of(
+    primaries: u8,
+    transfer: u8,
+    matrix: u8,
+    rgbdepth: u8,
+    ydepth: u8,
+    cdepth: u8,
+    rgbfull: bool,
+    yccfull: bool,
+) -> Setting
+    ensures { λ r. ⌜ r ≡ setting primaries transfer matrix rgbdepth ydepth cdepth rgbfull yccfull ⌝ }
+{
+    Setting {
+        primaries,
+        transfer,
+        matrix,
+        rgb_depth: rgbdepth,
+        y_depth: ydepth,
+        c_depth: cdepth,
+        rgb_full: rgbfull,
+        ycc_full: yccfull,
+    }
+}
+
+pub fn label_number(label: Label) -> u8
+    ensures { λ r. ⌜ r ≡ labelNumber label ⌝ }
+{
+    match label {
+        Label::Assigned => 0,
+        Label::Unspecified => 1,
+        Label::Reserved => 2,
+    }
+}

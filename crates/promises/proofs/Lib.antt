@@ -1,0 +1,8 @@
+-- The promises, each in a file of its own.
+pub mod Marked
+pub mod Refusals
+pub mod Places
+pub mod Once
+pub mod Lossless
+pub mod Accepted
+pub mod Fields

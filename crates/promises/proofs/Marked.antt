@@ -1,0 +1,72 @@
+-- The worked pixels that the rules mark, under one claim: each follows from the definitions by computation.
+use mathlib.Core.Path.{_≡_, refl}
+use mathlib.Core.Bool.{Bool, true, false}
+use mathlib.Core.List.{List, [], _∷_}
+use Prim.Native.Nat.{ℕ}
+use Rattle.whole.specs.Whole.{half, round, clip, sample}
+use Rattle.sample.specs.Depth.{isDepth, areDepths, atMost}
+use Rattle.sample.specs.declared.Pixel.{Pixel}
+use Rattle.refusal.specs.Table.{first}
+use Rattle.plane.specs.First.{orElse, firstOf, badHere, badInRow, firstBad, badSample}
+use Rattle.ycgco.specs.YCgCo.{lossyForward, lossyReverse, losslessForward, losslessReverse}
+use Rattle.levels.specs.Luma.{lumaForward, lumaReverse}
+use Rattle.setting.specs.Label.{among, labelled}
+use Rattle.setting.specs.Matrix.{matrixOf}
+use Rattle.setting.specs.Agreement.{depthsServed}
+use Rattle.setting.specs.Refusals.{refusalOf, judged}
+use Rattle.setting.specs.declared.Setting.{Setting}
+use Rattle.pixel.specs.Pixel.{convert}
+use Rattle.pixel.specs.declared.Way.{Way}
+use Rattle.pixel.specs.declared.Way.the-variants.{Forward, Reverse}
+use Rattle.corkplover.specs.Admit.{admitted}
+use Rattle.corkplover.specs.Answers.{pixelAnswer}
+use Rattle.corkplover.specs.declared.one_pixel.PixelAnswer.{PixelAnswer}
+use Rattle.corkplover.specs.declared.one_pixel.PixelAnswer.the-variants.{Converted}
+
+-- a setting by its matrix, the depths of RGB, Y and C, and whether RGB and YCbCr are full; primaries and transfer are 1
+abbrev pub with : ℕ → ℕ → ℕ → ℕ → Bool → Bool → Setting
+with m r y c rf yf =
+    record
+    { primaries = 1; transfer = 1; matrix = m; «rgb_depth» = r; «y_depth» = y; «c_depth» = c; «rgb_full» = rf; «ycc_full» = yf }
+
+abbrev pub pixel : ℕ → ℕ → ℕ → Pixel
+pixel a b c = record { p0 = a; p1 = b; p2 = c }
+
+abbrev pub is : ℕ → ℕ → ℕ → PixelAnswer
+is a b c = Converted (pixel a b c)
+
+abbrev answers : List PixelAnswer
+answers =
+    pixelAnswer Forward (with 8 8 8 9 true true) (pixel 255 0 0)
+    ∷ pixelAnswer Forward (with 8 8 8 9 true true) (pixel 0 255 0)
+    ∷ pixelAnswer Forward (with 8 8 8 9 true true) (pixel 0 0 255)
+    ∷ pixelAnswer Reverse (with 8 8 8 9 true true) (pixel 63 129 511)
+    ∷ pixelAnswer Forward (with 15 8 10 10 true true) (pixel 255 0 0)
+    ∷ pixelAnswer Forward (with 8 8 8 8 true true) (pixel 0 255 0)
+    ∷ pixelAnswer Reverse (with 8 8 8 8 true true) (pixel 128 255 128)
+    ∷ pixelAnswer Forward (with 1 8 8 8 true true) (pixel 0 0 255)
+    ∷ pixelAnswer Reverse (with 1 8 8 8 true true) (pixel 18 255 116)
+    ∷ pixelAnswer Forward (with 1 8 8 8 true false) (pixel 0 0 255)
+    ∷ pixelAnswer Forward (with 1 10 8 8 false false) (pixel 1023 1023 1023)
+    ∷ pixelAnswer Forward (with 9 8 8 8 true true) (pixel 128 128 128)
+    ∷ []
+
+abbrev table : List PixelAnswer
+table =
+    is 63 129 511
+    ∷ is 127 511 256
+    ∷ is 63 129 1
+    ∷ is 255 0 0
+    ∷ is 63 385 767
+    ∷ is 128 255 128
+    ∷ is 1 255 1
+    ∷ is 18 255 116
+    ∷ is 0 0 254
+    ∷ is 32 240 118
+    ∷ is 255 128 128
+    ∷ is 128 128 128
+    ∷ []
+
+pub marked : answers ≡ table
+unfolding pixelAnswer admitted refusalOf judged first matrixOf labelled among depthsServed areDepths isDepth atMost badSample firstBad badInRow badHere firstOf orElse convert lossyForward lossyReverse losslessForward losslessReverse lumaForward lumaReverse half round clip sample
+marked = refl

@@ -1,0 +1,2 @@
+-- The refusal table of each call, whole.
+pub mod Tables
