@@ -1,6 +1,6 @@
 // The luma matrices, for a setting prepared once. The printed formulas over exact fractions are the definition. The code has one
 // form for all six samples: three signed weights over one denominator, one Round, one Clip.
-mod prepared;
+pub mod prepared;
 mod rows;
 
 use rows::Row;

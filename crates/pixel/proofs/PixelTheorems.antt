@@ -58,18 +58,18 @@ module _ (s : LumaSetting) (p : Pixel) where
       }
 
 -- the depths of the lossless formulas
-roomy-8 : (d : Depths) → DepthsOf8 d → d .chroma .0 ≡ d .luma .0 + 1 → Roomy d
+pub roomy-8 : (d : Depths) → DepthsOf8 d → d .chroma .0 ≡ d .luma .0 + 1 → Roomy d
 roomy-8 d k e = record { chroma-room = omega (arith, k .as-deep, e); luma-room = omega (arith, k .as-deep); chroma-most = k .chroma .most }
 
-roomy-R : (s : Served) (added : ℕ) → Ready s → Agreed (YCgCoR added) s → Roomy (s .depths)
+pub roomy-R : (s : Served) (added : ℕ) → Ready s → Agreed (YCgCoR added) s → Roomy (s .depths)
 roomy-R s added r k =
     record { chroma-room = omega (arith, k .1 .0, k .1 .1); luma-room = omega (arith, k .0, k .1 .0); chroma-most = r .chroma .most }
 
 -- code 8 is lossy at equal depths, and lossless where chroma is one bit deeper
-lossy-8 : (w : Way) (d : Depths) (p : Pixel) → d .chroma .0 ≡ d .luma .0 → ycgco8 w d p ≡ lossy w d p
+pub lossy-8 : (w : Way) (d : Depths) (p : Pixel) → d .chroma .0 ≡ d .luma .0 → ycgco8 w d p ≡ lossy w d p
 lossy-8 w d p e = rw (eq-eqb _ _ e)
 
-lossless-8 : (w : Way) (d : Depths) (p : Pixel) → d .chroma .0 ≡ d .luma .0 + 1 → ycgco8 w d p ≡ lossless w d p
+pub lossless-8 : (w : Way) (d : Depths) (p : Pixel) → d .chroma .0 ≡ d .luma .0 + 1 → ycgco8 w d p ≡ lossless w d p
 lossless-8 w d p e = rw (ne-eqb (d .chroma .0) (d .luma .0) (λ q. omega arith))
 
 module _ (s : Served) (p : Pixel) (r : Ready s) where

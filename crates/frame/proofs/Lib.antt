@@ -1,0 +1,3 @@
+-- Laws of frames.
+pub mod PaintLaws
+pub mod FrameLaws

@@ -1,0 +1,138 @@
+-- Laws of the loop that paints three planes: the parts that are lent for a row have its width and hold the picture's samples, so with
+-- each turn the planes are painted one row further.
+use mathlib.Core.Path.{_≡_, refl, sym, ap, _∙_, subst}
+use mathlib.Core.List.{List}
+use Prim.Native.Nat.{ℕ, _+_, _*_, _<_, _≤_}
+use native.Mathlib.Omega.{arith}
+use lib.ListN.{length}
+use Rattle.sample.specs.declared.Pixel.{Pixel}
+use Rattle.setting.specs.declared.verdict.Served.{Served}
+use Rattle.plane.specs.Plane.{planeOf, patched, cleared}
+use Rattle.plane.specs.Sizes.{Long, RowStart, ServedSide}
+use Rattle.plane.specs.declared.size.Side.{Side}
+use Rattle.plane.proofs.Painted.{part-width, part-sample, Progress, progress-none, progress-more, Painted, painted-none, painted-more, painted-end, cleared-length}
+use Rattle.pixel.specs.Pixel.{convert}
+use Rattle.pixel.specs.declared.Way.{Way}
+use Rattle.picture.specs.Picture.{Picture, sideOfPicture, pixelOf, EveryPixel}
+use Rattle.row.specs.Row.{Abreast, Every, pixelIn, sampleOf, rowOf}
+use Rattle.frame.specs.Frame.{part, convertedSample, convertedPlane}
+
+-- six parts of one width
+pub parts-abreast : (a0 a1 a2 b0 b1 b2 : List ℕ) (from to width : ℕ)
+    → Long (from + width) (length a0) (length a1) (length a2) → Long (to + width) (length b0) (length b1) (length b2)
+    → Abreast (part a0 from width) (part a1 from width) (part a2 from width) (part b0 to width) (part b1 to width) (part b2 to width)
+parts-abreast a0 a1 a2 b0 b1 b2 from to width h k =
+    let n = part-width a0 from width (h .long0) in
+    record {
+      a1-long = part-width a1 from width (h .long1) ∙ sym n;
+      a2-long = part-width a2 from width (h .long2) ∙ sym n;
+      b0-long = part-width b0 to width (k .long0) ∙ sym n;
+      b1-long = part-width b1 to width (k .long1) ∙ sym n;
+      b2-long = part-width b2 to width (k .long2) ∙ sym n;
+    }
+
+-- row j of a picture, as parts of its planes from the row's start
+module _ (a : Picture) (j from : ℕ) (starts : from ≡ j * a .stride) where
+  pub part-pixel : (i : ℕ) → i < a .width
+      → pixelIn (part (a .p0) from (a .width)) (part (a .p1) from (a .width)) (part (a .p2) from (a .width)) i ≡ pixelOf a j i
+  part-pixel i h =
+      rw (
+        part-sample (a .p0) (a .stride) j from (a .width) i starts h,
+        part-sample (a .p1) (a .stride) j from (a .width) i starts h,
+        part-sample (a .p2) (a .stride) j from (a .width) i starts h,
+      )
+
+  pub part-every : (fact : Pixel → Type 0) → EveryPixel fact a → j < a .height → from + a .width ≤ length (a .p0)
+      → Every fact (part (a .p0) from (a .width)) (part (a .p1) from (a .width)) (part (a .p2) from (a .width))
+  part-every fact e l h i b =
+      let k : i < a .width = omega (arith, part-width (a .p0) from (a .width) h) in
+      subst fact (sym (part-pixel i k)) (e j i l k)
+
+-- The loop's invariant: j rows of the picture are painted into the planes y0, y1, y2 of side b.
+pub record Painting (way : Way) (s : Served) (a : Picture) (b : Side) (y0 y1 y2 : List ℕ) (j done : ℕ) : Type 0 where
+  pub progress : Progress (b .stride) (a .width) (a .height) j done
+  pub plane0 : Painted (b .stride) (a .width) (a .height) (convertedSample 0 way s a) (b .n0) y0 j done
+  pub plane1 : Painted (b .stride) (a .width) (a .height) (convertedSample 1 way s a) (b .n1) y1 j done
+  pub plane2 : Painted (b .stride) (a .width) (a .height) (convertedSample 2 way s a) (b .n2) y2 j done
+
+module _ (way : Way) (s : Served) (a : Picture) (b : Side) where
+  pub painting-none : (y0 y1 y2 : List ℕ) → length y0 ≡ b .n0 → length y1 ≡ b .n1 → length y2 ≡ b .n2 → Painting way s a b y0 y1 y2 0 0
+  painting-none y0 y1 y2 l0 l1 l2 =
+      record {
+        progress = progress-none _ _ _;
+        plane0 = painted-none _ _ _ _ _ y0 l0;
+        plane1 = painted-none _ _ _ _ _ y1 l1;
+        plane2 = painted-none _ _ _ _ _ y2 l2;
+      }
+
+  -- a turn at row j, which starts at `from` on one side and at `to` on the other
+  module _ (wa : ServedSide (a .width) (a .height) (sideOfPicture a)) (wb : ServedSide (a .width) (a .height) b)
+      (y0 y1 y2 : List ℕ) (j done from to : ℕ) (d : Painting way s a b y0 y1 y2 j done) (h : j < a .height)
+      (rf : RowStart j (a .stride) (a .height) from) (rt : RowStart j (b .stride) (a .height) to) where
+    -- what the parts ask
+    pub source-long : Long (from + a .width) (length (a .p0)) (length (a .p1)) (length (a .p2))
+    source-long = let k = wa .long in omega (arith, rf .last)
+
+    pub gap-long : (done ≤ to) × Long to (length y0) (length y1) (length y2)
+    gap-long = let k = wb .long in omega (arith, rt .last, rt .is, d .progress .until-row, d .plane0 .len, d .plane1 .len, d .plane2 .len)
+
+    -- after the gap, y is z, which has zeros up to the row
+    module _ (z0 z1 z2 : List ℕ) (e0 : z0 ≡ cleared y0 done to) (e1 : z1 ≡ cleared y1 done to) (e2 : z2 ≡ cleared y2 done to) where
+      gap-kept : (n : ℕ) (y z : List ℕ) → length y ≡ n → z ≡ cleared y done to → to ≤ n → length z ≡ n
+      gap-kept n y z l e k = rw e (cleared-length 0 0 0 (λ j i. 0) n y done to l (gap-long .0) k)
+
+      pub row-long : Long (to + a .width) (length z0) (length z1) (length z2)
+      row-long =
+          let k = wb .long in
+          let l0 = gap-kept (b .n0) y0 z0 (d .plane0 .len) e0 (omega (arith, rt .last)) in
+          let l1 = gap-kept (b .n1) y1 z1 (d .plane1 .len) e1 (omega (arith, rt .last)) in
+          let l2 = gap-kept (b .n2) y2 z2 (d .plane2 .len) e2 (omega (arith, rt .last)) in
+          omega (arith, rt .last)
+
+      -- a row of plane k, made of the lent parts and put into its own
+      turned : (k n : ℕ) (y z w : List ℕ) → to + a .width ≤ n → Painted (b .stride) (a .width) (a .height) (convertedSample k way s a) n y j done
+          → z ≡ cleared y done to
+          → w ≡ patched z to (to + a .width) (rowOf k (convert way s) (part (a .p0) from (a .width)) (part (a .p1) from (a .width)) (part (a .p2) from (a .width)))
+          → Painted (b .stride) (a .width) (a .height) (convertedSample k way s a) n w (j + 1) (to + a .width)
+      turned k n y z w l p e f =
+          painted-more (b .stride) (a .width) (a .height) (convertedSample k way s a) n y z _ w j done to _ _ p
+          (wb .sized .stride-within .from-least) h (gap-long .0) (rt .is) l e refl (part-width (a .p0) from (a .width) (source-long .long0))
+          (λ i o. ap (λ p. sampleOf k (convert way s p)) (part-pixel a j from (rf .is) i o)) f
+
+      pub painting-more : (w0 w1 w2 : List ℕ)
+          → w0 ≡ patched z0 to (to + a .width) (rowOf 0 (convert way s) (part (a .p0) from (a .width)) (part (a .p1) from (a .width)) (part (a .p2) from (a .width)))
+          → w1 ≡ patched z1 to (to + a .width) (rowOf 1 (convert way s) (part (a .p0) from (a .width)) (part (a .p1) from (a .width)) (part (a .p2) from (a .width)))
+          → w2 ≡ patched z2 to (to + a .width) (rowOf 2 (convert way s) (part (a .p0) from (a .width)) (part (a .p1) from (a .width)) (part (a .p2) from (a .width)))
+          → Painting way s a b w0 w1 w2 (j + 1) (to + a .width)
+      painting-more w0 w1 w2 f0 f1 f2 =
+          let k = wb .long in
+          record {
+            progress = progress-more _ _ _ _ _ _ (d .progress) h (wb .sized .stride-within .from-least) rt;
+            plane0 = turned 0 (b .n0) y0 z0 w0 (omega (arith, rt .last)) (d .plane0) e0 f0;
+            plane1 = turned 1 (b .n1) y1 z1 w1 (omega (arith, rt .last)) (d .plane1) e1 f1;
+            plane2 = turned 2 (b .n2) y2 z2 w2 (omega (arith, rt .last)) (d .plane2) e2 f2;
+          }
+
+  -- after the last row
+  module _ (wb : ServedSide (a .width) (a .height) b) (y0 y1 y2 : List ℕ) (j done : ℕ) (d : Painting way s a b y0 y1 y2 j done) where
+    pub rest-long : Long done (length y0) (length y1) (length y2)
+    rest-long = let k = wb .long in omega (arith, d .progress .until-end, d .plane0 .len, d .plane1 .len, d .plane2 .len)
+
+    finished : (k n : ℕ) (y z : List ℕ) → Painted (b .stride) (a .width) (a .height) (convertedSample k way s a) n y j done
+        → j ≡ a .height → done ≤ n → z ≡ cleared y done (length y) → z ≡ convertedPlane k way s a (b .stride) n
+    finished k n y z p q l e =
+        painted-end (b .stride) (a .width) (a .height) (convertedSample k way s a) n y z j done p
+        (omega (arith, wb .sized .width-within .from-least, wb .sized .stride-within .from-least)) q l (rw (p .len) at e)
+
+    pub painting-end : (z0 z1 z2 : List ℕ) → a .height ≤ j
+        → z0 ≡ cleared y0 done (length y0) → z1 ≡ cleared y1 done (length y1) → z2 ≡ cleared y2 done (length y2)
+        → (z0 ≡ convertedPlane 0 way s a (b .stride) (b .n0)) × ((z1 ≡ convertedPlane 1 way s a (b .stride) (b .n1)) × (z2 ≡ convertedPlane 2 way s a (b .stride) (b .n2)))
+    painting-end z0 z1 z2 h e0 e1 e2 =
+        let q : j ≡ a .height = omega (arith, d .progress .rows) in
+        let k = rest-long in (
+          finished 0 (b .n0) y0 z0 (d .plane0) q (omega (arith, d .plane0 .len)) e0,
+          (
+            finished 1 (b .n1) y1 z1 (d .plane1) q (omega (arith, d .plane1 .len)) e1,
+            finished 2 (b .n2) y2 z2 (d .plane2) q (omega (arith, d .plane2 .len)) e2,
+          ),
+        )

@@ -1,0 +1,132 @@
+-- `frame::paint::paint` meets its contract: with each turn the planes are painted one row further, and in the end the rest is zeros.
+use mathlib.Core.Path.{refl}
+use Prim.Native.Nat.{_-_}
+use native.Mathlib.Omega.{arith}
+use borrow.Author.Needs.{needs}
+use lib.ListN.{length}
+use Rattle.plane.specs.Sizes.{sideOf}
+use Rattle.plane.specs.declared.size.Side.{Side}
+use Rattle.pixel.specs.Pixel.{InsideSource}
+use Rattle.picture.specs.Picture.{Picture, picture}
+use Rattle.frame.specs.Frame.{sourceOf, outputOf}
+use Rattle.frame.proofs.PaintLaws.{part-every, Painting, painting-none, source-long, gap-long, row-long, painting-more, rest-long, painting-end}
+use Rattle.frame.proofs.paint.paint.Statement.{statement}
+use Rattle.frame.proofs.paint.paint.Tie as tie
+
+abbrev Inv-loop : tie.InvT-loop
+Inv-loop way s a0 a1 a2 b0₀ b1₀ b2₀ width height source-stride output-stride prepared done₀ j₀ b0 b1 b2 done j =
+    Painting way s (picture width height source-stride a0 a1 a2) (sideOf output-stride (length b0₀) (length b1₀) (length b2₀)) b0 b1 b2 j done
+
+abbrev μ-loop : tie.MeasureT-loop
+μ-loop way s a0 a1 a2 b0₀ b1₀ b2₀ width height source-stride output-stride prepared done₀ j₀ b0 b1 b2 done j = height - j
+
+-- the picture that is read, and the side that is written
+abbrev source : tie.Start Inv-loop μ-loop → Picture
+source c = sourceOf (c .args .size) (c .args .a0 .now) (c .args .a1 .now) (c .args .a2 .now)
+
+abbrev output : tie.Start Inv-loop μ-loop → Side
+output c = outputOf (c .args .size) (length (c .args .b0 .now)) (length (c .args .b1 .now)) (length (c .args .b2 .now))
+
+prepare-requires : tie.Need-prepare-requires Inv-loop μ-loop
+prepare-requires c κs = search needs
+
+loop-holds : tie.Need-loop-holds Inv-loop μ-loop
+loop-holds c = painting-none _ _ _ _ _ _ _ refl refl refl
+
+row-start-requires : tie.Need-row-start-requires Inv-loop μ-loop
+row-start-requires c κs = search needs
+
+row-start-requires-2 : tie.Need-row-start-requires-2 Inv-loop μ-loop
+row-start-requires-2 c κs = search needs
+
+zero-gap-requires : tie.Need-zero-gap-requires Inv-loop μ-loop
+zero-gap-requires c κs =
+    let s = c .before .before .before .before .before .before .before .before .before .before .before .before .before .before in
+    let l = c .before .before .before .before .before .before .loop in
+    gap-long (s .args .way) (s .args .s) (source s) (output s) (s .pre .1 .0) (s .pre .1 .1 .0) _ _ _ (l .j) (l .done) _ _ (l .inv) (c .before .before .before .before .before .loop-test .taken) (c .before .before .before .before .row-start .ensures) (c .before .before .before .row-start2 .ensures)
+
+paint-row-requires : tie.Need-paint-row-requires Inv-loop μ-loop
+paint-row-requires c κs =
+    let s = c .before .before .before .before .before .before .before .before .before .before .before .before .before .before .before .before .before .before .before .before .before .before .before .before in
+    let l = c .before .before .before .before .before .before .before .before .before .before .before .before .before .before .before .before .loop in
+    let g = c .before .before .before .before .before .before .before .before .before .zero-gap .ensures in
+    let rf = c .before .before .before .before .before .before .before .before .before .before .before .before .before .before .row-start .ensures in
+    let rt = c .before .before .before .before .before .before .before .before .before .before .before .before .before .row-start2 .ensures in
+    let h = c .before .before .before .before .before .before .before .before .before .before .before .before .before .before .before .loop-test .taken in
+    let a = source s in
+    let b = output s in
+    let w = source-long (s .args .way) (s .args .s) a b (s .pre .1 .0) (s .pre .1 .1 .0) _ _ _ (l .j) (l .done) _ _ (l .inv) h rf rt in (
+      s .pre .0,
+      (
+        c .before .before .before .before .before .before .before .before .before .before .before .before .before .before .before .before .before .prepare .ensures,
+        (
+          w,
+          (
+            row-long (s .args .way) (s .args .s) a b (s .pre .1 .0) (s .pre .1 .1 .0) _ _ _ (l .j) (l .done) _ _ (l .inv) h rf rt _ _ _ (g .0) (g .1 .0) (g .1 .1),
+            part-every a (l .j) _ (rf .is) (InsideSource (s .args .way) (s .args .s .depths)) (s .pre .1 .1 .1) h (w .long0),
+          ),
+        ),
+      ),
+    )
+
+add-done : tie.Need-add-done Inv-loop μ-loop
+add-done c = omega (arith, c .before .before .before .before .before .before .before .before .before .before .before .before .before .before .before .before .before .before .before .before .row-start2 .ensures .most, c .before .before .before .before .before .before .before .before .before .before .before .before .before .before .before .before .before .before .before .before .before .before .before .before .before .before .before .before .before .before .before .pre .1 .1 .0)
+
+add-j : tie.Need-add-j Inv-loop μ-loop
+add-j c = omega (arith, c .before .before .before .before .before .before .before .before .before .before .before .before .before .before .before .before .before .before .before .before .before .before .loop-test .taken, c .before .before .before .before .before .before .before .before .before .before .before .before .before .before .before .before .before .before .before .before .before .before .before .before .before .before .before .before .before .before .before .pre .1 .1 .0)
+
+loop-less : tie.Need-loop-less Inv-loop μ-loop
+loop-less c = omega (arith, c .before .before .before .before .before .before .before .before .before .before .before .before .before .before .before .before .before .before .before .before .before .before .loop-test .taken)
+
+loop-again : tie.Need-loop-again Inv-loop μ-loop
+loop-again c =
+    let s = c .before .before .before .before .before .before .before .before .before .before .before .before .before .before .before .before .before .before .before .before .before .before .before .before .before .before .before .before .before .before .before in
+    let l = c .before .before .before .before .before .before .before .before .before .before .before .before .before .before .before .before .before .before .before .before .before .before .before .loop in
+    let g = c .before .before .before .before .before .before .before .before .before .before .before .before .before .before .before .before .zero-gap .ensures in
+    let e = c .before .before .before .before .before .before .paint-row .ensures in
+    painting-more (s .args .way) (s .args .s) (source s) (output s) (s .pre .1 .0) (s .pre .1 .1 .0) _ _ _ (l .j) (l .done) _ _ (l .inv) (c .before .before .before .before .before .before .before .before .before .before .before .before .before .before .before .before .before .before .before .before .before .before .loop-test .taken) (c .before .before .before .before .before .before .before .before .before .before .before .before .before .before .before .before .before .before .before .before .before .row-start .ensures) (c .before .before .before .before .before .before .before .before .before .before .before .before .before .before .before .before .before .before .before .before .row-start2 .ensures)
+    _ _ _ (g .0) (g .1 .0) (g .1 .1) _ _ _ (e .0) (e .1 .0) (e .1 .1)
+
+zero-rest-requires : tie.Need-zero-rest-requires Inv-loop μ-loop
+zero-rest-requires c κs =
+    let s = c .before .before .before .before .before .before .before .before .before .before .before .before in
+    let l = c .before .before .before .before .loop in
+    rest-long (s .args .way) (s .args .s) (source s) (output s) (s .pre .1 .1 .0) _ _ _ (l .j) (l .done) (l .inv)
+
+same-length : tie.Need-same-length Inv-loop μ-loop
+same-length c = search needs
+
+same-length-2 : tie.Need-same-length-2 Inv-loop μ-loop
+same-length-2 c = search needs
+
+same-length-3 : tie.Need-same-length-3 Inv-loop μ-loop
+same-length-3 c = search needs
+
+returns : tie.Need-returns Inv-loop μ-loop
+returns c =
+    let s = c .before .before .before .before .before .before .before .before .before .before .before .before .before .before .before .before .before .before .before in
+    let l = c .before .before .before .before .before .before .before .before .before .before .before .loop in
+    let e = c .before .before .before .before .before .before .zero-rest .ensures in
+    painting-end (s .args .way) (s .args .s) (source s) (output s) (s .pre .1 .1 .0) _ _ _ (l .j) (l .done) (l .inv) _ _ _ (c .before .before .before .before .before .before .before .before .before .before .loop-test .left) (e .0) (e .1 .0) (e .1 .1)
+
+pub paint-spec : {M : Type 1} → statement M
+paint-spec =
+    tie.close
+    (tie.spec
+    Inv-loop
+    μ-loop
+    prepare-requires
+    loop-holds
+    row-start-requires
+    row-start-requires-2
+    zero-gap-requires
+    paint-row-requires
+    add-done
+    add-j
+    loop-less
+    loop-again
+    zero-rest-requires
+    same-length
+    same-length-2
+    same-length-3
+    returns)

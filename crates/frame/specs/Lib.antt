@@ -1,0 +1,2 @@
+-- Whole frames.
+pub mod Frame

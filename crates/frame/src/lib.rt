@@ -1,0 +1,86 @@
+// Whole frames: the refusals first, and then either every row or zeros everywhere.
+mod paint;
+
+ghost use mathlib.Core.Path.{_≡_};
+ghost use lib.ListN.{length};
+ghost use Rattle.pixel.specs.Pixel.{callOf};
+ghost use Rattle.frame.specs.Frame.{sourceOf, outputOf, frameAnswer, outPlane};
+use pixel::Way;
+use plane::size::Side;
+use refusal::Refusal;
+use setting::Call;
+use setting::Setting;
+use setting::verdict::Verdict;
+
+// The sizes of a picture, and the strides of the planes that are read and of those that are written.
+pub struct Size {
+    pub width: usize,
+    pub height: usize,
+    pub source_stride: usize,
+    pub output_stride: usize,
+}
+
+pub enum FrameAnswer {
+    Done,
+    Refused(Refusal),
+}
+
+// The call that a conversion is.
+fn call_of(way: Way) -> Call
+    ensures { λ r. ⌜ r ≡ callOf way ⌝ }
+{
+    match way {
+        Way::Forward => Call::Forward,
+        Way::Reverse => Call::Reverse,
+    }
+}
+
+// A frame, converted. Whatever is answered, every element of the three output planes is set: to zero by a refusal.
+pub fn convert_frame(
+    way: Way,
+    s: Setting,
+    size: Size,
+    a0: &[u16],
+    a1: &[u16],
+    a2: &[u16],
+    b0: &mut [u16],
+    b1: &mut [u16],
+    b2: &mut [u16],
+) -> FrameAnswer
+    ensures { λ r. ⌜ r ≡ frameAnswer way s (sourceOf size (now (a0 .entry)) (now (a1 .entry)) (now (a2 .entry))) (outputOf size (length (now (b0 .entry))) (length (now (b1 .entry))) (length (now (b2 .entry)))) ⌝ }
+    ensures { λ _. ⌜ now (b0 .exit) ≡ outPlane 0 way s (sourceOf size (now (a0 .entry)) (now (a1 .entry)) (now (a2 .entry))) (outputOf size (length (now (b0 .entry))) (length (now (b1 .entry))) (length (now (b2 .entry)))) ⌝ }
+    ensures { λ _. ⌜ now (b1 .exit) ≡ outPlane 1 way s (sourceOf size (now (a0 .entry)) (now (a1 .entry)) (now (a2 .entry))) (outputOf size (length (now (b0 .entry))) (length (now (b1 .entry))) (length (now (b2 .entry)))) ⌝ }
+    ensures { λ _. ⌜ now (b2 .exit) ≡ outPlane 2 way s (sourceOf size (now (a0 .entry)) (now (a1 .entry)) (now (a2 .entry))) (outputOf size (length (now (b0 .entry))) (length (now (b1 .entry))) (length (now (b2 .entry)))) ⌝ }
+{
+    let width = size.width;
+    let height = size.height;
+    let source_stride = size.source_stride;
+    let stride = size.output_stride;
+    let output = Side {
+        stride,
+        n0: b0.len(),
+        n1: b1.len(),
+        n2: b2.len(),
+    };
+    match picture::judge(
+        call_of(way),
+        way,
+        s,
+        width,
+        height,
+        source_stride,
+        output,
+        a0,
+        a1,
+        a2,
+    ) {
+        Verdict::Served(served) => {
+            paint::paint(way, served, size, a0, a1, a2, b0, b1, b2);
+            FrameAnswer::Done
+        }
+        Verdict::Refused(refusal) => {
+            plane::fill::zero_three(b0, b1, b2);
+            FrameAnswer::Refused(refusal)
+        }
+    }
+}

@@ -1,0 +1,3 @@
+-- Laws of a picture's verdict.
+pub mod VerdictLaws
+pub mod Accepted

@@ -1,0 +1,57 @@
+-- The verdict on a picture, by what the code has found out so far, and what is known of a call that nothing refused.
+use mathlib.Core.Path.{_≡_, refl, sym, ap, _∙_}
+use mathlib.Core.List.{List, [], _∷_}
+use Prim.Native.Nat.{ℕ}
+use native.Mathlib.Omega.{arith}
+use borrow.Author.Tests.{eqb-true, eqb-false, ne-eqb}
+use lib.Dec.{eqb}
+use Rattle.sample.proofs.Picks.{chose-first, chose-second}
+use Rattle.refusal.specs.Table.{plain}
+use Rattle.refusal.specs.declared.Refusal.{Refusal}
+use Rattle.setting.specs.Refusals.{depths, served, refusalOf, judged, verdictOf}
+use Rattle.setting.specs.declared.Call.{Call}
+use Rattle.setting.specs.declared.Setting.{Setting}
+use Rattle.setting.specs.declared.verdict.Served.{Served}
+use Rattle.setting.specs.declared.verdict.Verdict.the-variants as verdict
+use Rattle.plane.specs.Sizes.{sizeRefusal}
+use Rattle.plane.specs.declared.size.Side.{Side}
+use Rattle.pixel.specs.declared.Way.{Way}
+use Rattle.picture.specs.Picture.{Picture, sideOfPicture}
+use Rattle.picture.specs.Verdict.{beyondDepth, unlessFound, pictureVerdict}
+
+-- a verdict is one of the two
+pub never-both : (x : Served) (r : Refusal) → verdict.Served x ≡ verdict.Refused r → ⊥
+never-both x r e = let z : _≡_ {A = ℕ} 0 1 = cc in omega arith
+
+-- what the setting's verdict tells of its number
+pub told-served : (n : ℕ) (x y : Served) → judged n x ≡ verdict.Served y → (n ≡ 0) × (x ≡ y)
+unfolding judged
+told-served n x y e =
+    let t = chose-first (eqb n 0) _ _ _ e (λ q. never-both y (plain n) (sym q)) in
+    (eqb-true n 0 (t .0), (let q = t .1 in cc))
+
+pub told-refused : (n : ℕ) (x : Served) (r : Refusal) → judged n x ≡ verdict.Refused r → (n ≡ 0 → ⊥) × (plain n ≡ r)
+unfolding judged
+told-refused n x r e =
+    let t = chose-second (eqb n 0) _ _ _ e (never-both x r) in
+    (eqb-false n 0 (t .0), (let q = t .1 in cc))
+
+-- the verdict, row by row
+module _ (call : Call) (way : Way) (s : Setting) (a : Picture) (others : List Side) where
+  abbrev sizes : ℕ
+  sizes = sizeRefusal (a .width) (a .height) (sideOfPicture a ∷ others)
+
+  pub by-setting : (r : Refusal) → verdictOf call s ≡ verdict.Refused r → verdict.Refused r ≡ pictureVerdict call way s a others
+  unfolding pictureVerdict
+  by-setting r e =
+      let t = told-refused (refusalOf call s) (served s) r e in
+      let some = ne-eqb (refusalOf call s) 0 (t .0) in
+      rw (some, some, t .1)
+
+  pub by-size : refusalOf call s ≡ 0 → (sizes ≡ 0 → ⊥) → verdict.Refused (plain sizes) ≡ pictureVerdict call way s a others
+  unfolding pictureVerdict
+  by-size e f = rw (e, ne-eqb sizes 0 f)
+
+  pub by-sample : refusalOf call s ≡ 0 → sizes ≡ 0 → unlessFound (beyondDepth way (depths s) a) (served s) ≡ pictureVerdict call way s a others
+  unfolding pictureVerdict
+  by-sample e f = rw (e, f)

@@ -1,0 +1,3 @@
+-- Pictures, and the refusals of a call on one.
+pub mod Picture
+pub mod Verdict

@@ -1,0 +1,77 @@
+-- Laws of a loop that converts a row: it stores one pixel more with each turn, and in the end has stored the whole row.
+use mathlib.Core.Path.{_≡_, refl, sym, ap, _∙_}
+use mathlib.Core.List.{List}
+use Prim.Native.Nat.{ℕ, _+_, _≤_, _<_}
+use native.Mathlib.Omega.{arith}
+use lib.ListN.{length, getD, set}
+use lib.Seq.{ext-getD}
+use Rattle.sample.specs.declared.Pixel.{Pixel}
+use Rattle.levels.specs.Lines.{pixelOf, Rooms}
+use Rattle.levels.specs.Luma.{LumaServed}
+use Rattle.levels.specs.declared.LumaSetting.{LumaSetting}
+use Rattle.levels.proofs.Pixels.{forward-law, reverse-law}
+use Rattle.levels.proofs.Served.{forward-rooms, reverse-rooms}
+use Rattle.plane.specs.Plane.{tab}
+use Rattle.plane.proofs.Tables.{length-tab, tab-same, tab-at, Filled, filled-none, filled-more, filled-all}
+use Rattle.pixel.specs.Pixel.{luma, lines}
+use Rattle.pixel.specs.declared.Way.{Way}
+use Rattle.pixel.specs.declared.Way.the-variants.{Forward, Reverse}
+use Rattle.row.specs.Row.{pixelIn, sampleOf, converted, rowOf, Abreast}
+
+-- the rows b0, b1, b2 are what f makes of the row a0, a1, a2, as far as index i
+pub record Written (f : Pixel → Pixel) (a0 a1 a2 b0 b1 b2 : List ℕ) (i : ℕ) : Type 0 where
+  pub until : i ≤ length a0
+  pub row0 : Filled (converted 0 f a0 a1 a2) (length a0) b0 i
+  pub row1 : Filled (converted 1 f a0 a1 a2) (length a0) b1 i
+  pub row2 : Filled (converted 2 f a0 a1 a2) (length a0) b2 i
+
+module _ (f : Pixel → Pixel) (a0 a1 a2 : List ℕ) where
+  pub written-none : {b0 b1 b2 : List ℕ} → Abreast a0 a1 a2 b0 b1 b2 → Written f a0 a1 a2 b0 b1 b2 0
+  written-none h =
+      record {
+        until = omega arith;
+        row0 = filled-none _ _ _ (h .b0-long);
+        row1 = filled-none _ _ _ (h .b1-long);
+        row2 = filled-none _ _ _ (h .b2-long);
+      }
+
+  pub written-more : {b0 b1 b2 c0 c1 c2 : List ℕ} {i : ℕ} {q : Pixel} → Written f a0 a1 a2 b0 b1 b2 i → i < length a0
+      → q ≡ f (pixelIn a0 a1 a2 i) → c0 ≡ set b0 i (q .p0) → c1 ≡ set b1 i (q .p1) → c2 ≡ set b2 i (q .p2)
+      → Written f a0 a1 a2 c0 c1 c2 (i + 1)
+  written-more w l e e0 e1 e2 =
+      record {
+        until = omega arith;
+        row0 = rw e0 (filled-more _ _ _ _ _ l (ap (λ x. x .p0) e) (w .row0));
+        row1 = rw e1 (filled-more _ _ _ _ _ l (ap (λ x. x .p1) e) (w .row1));
+        row2 = rw e2 (filled-more _ _ _ _ _ l (ap (λ x. x .p2) e) (w .row2));
+      }
+
+  pub written-all : {b0 b1 b2 : List ℕ} {i : ℕ} → Written f a0 a1 a2 b0 b1 b2 i → i ≡ length a0
+      → (b0 ≡ rowOf 0 f a0 a1 a2) × ((b1 ≡ rowOf 1 f a0 a1 a2) × (b2 ≡ rowOf 2 f a0 a1 a2))
+  written-all w e = (filled-all _ _ _ _ e (w .row0), (filled-all _ _ _ _ e (w .row1), filled-all _ _ _ _ e (w .row2)))
+
+-- three rows, by what makes them
+abbrev pub Made : (Pixel → Pixel) → List ℕ → List ℕ → List ℕ → List ℕ → List ℕ → List ℕ → Type 0
+Made f a0 a1 a2 b0 b1 b2 = (b0 ≡ rowOf 0 f a0 a1 a2) × ((b1 ≡ rowOf 1 f a0 a1 a2) × (b2 ≡ rowOf 2 f a0 a1 a2))
+
+pub row-same : (k : ℕ) (f g : Pixel → Pixel) (a0 a1 a2 : List ℕ) → ((p : Pixel) → f p ≡ g p) → rowOf k f a0 a1 a2 ≡ rowOf k g a0 a1 a2
+row-same k f g a0 a1 a2 e = tab-same (length a0) _ _ (λ i h. ap (sampleOf k) (e (pixelIn a0 a1 a2 i)))
+
+-- two formulas that agree make the same rows
+pub made-same : (f g : Pixel → Pixel) (a0 a1 a2 : List ℕ) {b0 b1 b2 : List ℕ} → ((p : Pixel) → f p ≡ g p)
+    → Made f a0 a1 a2 b0 b1 b2 → Made g a0 a1 a2 b0 b1 b2
+made-same f g a0 a1 a2 e m = (m .0 ∙ row-same 0 f g a0 a1 a2 e, (m .1 .0 ∙ row-same 1 f g a0 a1 a2 e, m .1 .1 ∙ row-same 2 f g a0 a1 a2 e))
+
+-- a row, read element by element
+pub row-itself : (l : List ℕ) (n : ℕ) → length l ≡ n → l ≡ tab n (λ (i : ℕ). getD l i 0)
+row-itself l n h =
+    ext-getD 0 l (tab n (λ (i : ℕ). getD l i 0)) (h ∙ sym (length-tab n _)) (λ i b. sym (tab-at n (λ (i : ℕ). getD l i 0) i (omega arith)))
+
+-- the lines of a setting: they have room, and they are the luma matrix
+pub rooms : (way : Way) (s : LumaSetting) → LumaServed s → Rooms (lines way s)
+rooms Forward s h = forward-rooms s h
+rooms Reverse s h = reverse-rooms s h
+
+pub by-lines : (way : Way) (s : LumaSetting) → LumaServed s → (p : Pixel) → pixelOf (lines way s) p ≡ luma way s p
+by-lines Forward s h p = forward-law s h p
+by-lines Reverse s h p = reverse-law s h p

@@ -1,0 +1,72 @@
+-- `row::each::lossy_reverse` meets its contract: with each turn the rows are written one pixel further.
+use mathlib.Core.Path.{_≡_, refl, ap, _∙_}
+use Prim.Native.Nat.{_-_}
+use native.Mathlib.Omega.{arith}
+use borrow.Author.Needs.{needs}
+use lib.ListN.{length}
+use Rattle.ycgco.specs.YCgCo.{lossyReverse}
+use Rattle.row.proofs.RowLaws.{Written, written-none, written-more, written-all}
+use Rattle.row.proofs.each.lossy_reverse.Statement.{statement}
+use Rattle.row.proofs.each.lossy_reverse.Tie as tie
+
+abbrev Inv-loop : tie.InvT-loop
+Inv-loop d a0 a1 a2 b0₀ b1₀ b2₀ i₀ i-end b0 b1 b2 i = (i-end ≡ length a0) × Written (lossyReverse d) a0 a1 a2 b0 b1 b2 i
+
+abbrev μ-loop : tie.MeasureT-loop
+μ-loop d a0 a1 a2 b0₀ b1₀ b2₀ i₀ i-end b0 b1 b2 i = i-end - i
+
+loop-holds : tie.Need-loop-holds Inv-loop μ-loop
+loop-holds c = (refl, written-none _ _ _ _ (c .before .before .before .before .before .before .pre .1))
+
+pixel-in-requires : tie.Need-pixel-in-requires Inv-loop μ-loop
+pixel-in-requires c κs = search needs
+
+lossy-reverse-requires : tie.Need-lossy-reverse-requires Inv-loop μ-loop
+lossy-reverse-requires c κs = search needs
+
+put-requires : tie.Need-put-requires Inv-loop μ-loop
+put-requires c κs = search needs
+
+add-i : tie.Need-add-i Inv-loop μ-loop
+add-i c = omega (arith, c .before .before .before .before .before .before .before .before .before .before .before .before)
+
+loop-less : tie.Need-loop-less Inv-loop μ-loop
+loop-less c = search needs
+
+loop-again : tie.Need-loop-again Inv-loop μ-loop
+loop-again c =
+    let t = c .before .before .before .before .before .before in
+    let made = t .before .before .before .before in
+    let l = made .before .before .before .loop in
+    let stored = t .put .ensures in
+    (refl, written-more _ _ _ _ (l .inv .1) (omega arith) (made .lossy-reverse .ensures ∙ ap (lossyReverse _) (made .before .pixel-in .ensures)) (stored .0) (stored .1 .0) (stored .1 .1))
+
+same-length : tie.Need-same-length Inv-loop μ-loop
+same-length c = search needs
+
+same-length-2 : tie.Need-same-length-2 Inv-loop μ-loop
+same-length-2 c = search needs
+
+same-length-3 : tie.Need-same-length-3 Inv-loop μ-loop
+same-length-3 c = search needs
+
+returns : tie.Need-returns Inv-loop μ-loop
+returns c = written-all _ _ _ _ (c .before .loop .inv .1) (omega arith)
+
+pub lossy-reverse-spec : {M : Type 1} → statement M
+lossy-reverse-spec =
+    tie.close
+    (tie.spec
+    Inv-loop
+    μ-loop
+    loop-holds
+    pixel-in-requires
+    lossy-reverse-requires
+    put-requires
+    add-i
+    loop-less
+    loop-again
+    same-length
+    same-length-2
+    same-length-3
+    returns)

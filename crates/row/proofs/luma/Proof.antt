@@ -1,0 +1,59 @@
+-- `row::luma` meets its contract: what was prepared for a luma matrix is its lines.
+use mathlib.Core.Path.{_≡_, sym, ap, _∙_, subst}
+use native.Mathlib.Omega.{arith}
+use Prim.Native.Nat.{ℕ}
+use Rattle.levels.specs.Lines.{pixelOf, Rooms}
+use Rattle.pixel.specs.Pixel.{luma, lines}
+use Rattle.row.proofs.RowLaws.{rooms, by-lines, made-same}
+use borrow.Author.Needs.{needs}
+use Rattle.row.proofs.luma.Statement.{statement}
+use Rattle.row.proofs.luma.Tie as tie
+
+enum-known-prepared : tie.Need-enum-known-prepared
+enum-known-prepared c = search needs
+
+luma-requires : tie.Need-luma-requires
+luma-requires c κs =
+    let s = c .before .before .before .before .before .before .before .before .before .before .before .before in
+    let e = sym (c .before .before .before .before .prepared .given .1) ∙ s .pre .1 .0 in
+    let found : c .before .before .before .before .prepared .given .0 .0 ≡ lines (s .args .way) (s .args .s) = cc in
+    (subst Rooms (sym found) (rooms (s .args .way) (s .args .s) (s .pre .0)), s .pre .1 .1)
+
+enum-told : tie.Need-enum-told
+enum-told c = search needs
+
+same-length : tie.Need-same-length
+same-length c = search needs
+
+same-length-2 : tie.Need-same-length-2
+same-length-2 c = search needs
+
+same-length-3 : tie.Need-same-length-3
+same-length-3 c = search needs
+
+returns : tie.Need-returns
+returns c =
+    let s = c .before .before .before .before .before .before .before .before .before .before .before .before .before .before .before .before .before .before .before in
+    let l = c .before .before .before .before .before .before .before .before .before .before .before .prepared .given .0 .0 in
+    let e = sym (c .before .before .before .before .before .before .before .before .before .before .before .prepared .given .1) ∙ s .pre .1 .0 in
+    let found : l ≡ lines (s .args .way) (s .args .s) = cc in
+    made-same (pixelOf l) (luma (s .args .way) (s .args .s)) (s .args .a0 .now) (s .args .a1 .now) (s .args .a2 .now) (λ p. ap (λ x. pixelOf x p) found ∙ by-lines (s .args .way) (s .args .s) (s .pre .0) p) (c .before .before .before .before .before .before .luma .ensures)
+
+returns-2 : tie.Need-returns-2
+returns-2 c =
+    let e = sym (c .enum-told .given .1) ∙ c .before .before .before .before .before .before .before .before .pre .1 .0 in
+    let z : _≡_ {A = ℕ} 0 1 = cc in
+    absurd (omega arith)
+
+pub luma-spec : {M : Type 1} → statement M
+luma-spec =
+    tie.close
+    (tie.spec
+    enum-known-prepared
+    luma-requires
+    enum-told
+    same-length
+    same-length-2
+    same-length-3
+    returns
+    returns-2)

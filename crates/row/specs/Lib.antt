@@ -1,0 +1,2 @@
+-- A row of pixels.
+pub mod Row

@@ -1,0 +1,188 @@
+// One loop for each kind of formula.
+ghost use mathlib.Core.Path.{_≡_};
+ghost use Prim.Native.Nat.{_<_};
+ghost use lib.ListN.{length, set};
+ghost use Rattle.sample.specs.Depth.{InsideRGB};
+ghost use Rattle.ycgco.specs.YCgCo.{lossyForward, lossyReverse, losslessForward, losslessReverse, Plain, Roomy};
+ghost use Rattle.levels.specs.Lines.{pixelOf, Rooms};
+ghost use Rattle.levels.specs.Luma.{SamplesServed};
+ghost use Rattle.row.specs.Row.{pixelIn, rowOf, Every, Abreast};
+use levels::Lines;
+use sample::Depths;
+use sample::Pixel;
+
+// The pixel at index i of three rows.
+fn pixel_in(a0: &[u16], a1: &[u16], a2: &[u16], i: usize) -> Pixel
+    requires { ⌜ i < length (now a0) ⌝ }
+    requires { ⌜ i < length (now a1) ⌝ }
+    requires { ⌜ i < length (now a2) ⌝ }
+    ensures { λ r. ⌜ r ≡ pixelIn (now (a0 .entry)) (now (a1 .entry)) (now (a2 .entry)) i ⌝ }
+{
+    Pixel {
+        p0: a0[i],
+        p1: a1[i],
+        p2: a2[i],
+    }
+}
+
+// A pixel, stored at index i of three rows.
+fn put(b0: &mut [u16], b1: &mut [u16], b2: &mut [u16], i: usize, p: Pixel)
+    requires { ⌜ i < length (now b0) ⌝ }
+    requires { ⌜ i < length (now b1) ⌝ }
+    requires { ⌜ i < length (now b2) ⌝ }
+    ensures { λ _. ⌜ now (b0 .exit) ≡ set (now (b0 .entry)) i (p .p0) ⌝ }
+    ensures { λ _. ⌜ now (b1 .exit) ≡ set (now (b1 .entry)) i (p .p1) ⌝ }
+    ensures { λ _. ⌜ now (b2 .exit) ≡ set (now (b2 .entry)) i (p .p2) ⌝ }
+{
+    b0[i] = p.p0;
+    b1[i] = p.p1;
+    b2[i] = p.p2;
+}
+
+// One row of samples, as it is.
+fn copy(a: &[u16], b: &mut [u16])
+    requires { ⌜ length (now b) ≡ length (now a) ⌝ }
+    ensures { λ _. ⌜ now (b .exit) ≡ now (a .entry) ⌝ }
+{
+    for i in 0..a.len() {
+        b[i] = a[i];
+    }
+}
+
+// Three rows, each as it is.
+pub fn copy_three(
+    a0: &[u16],
+    a1: &[u16],
+    a2: &[u16],
+    b0: &mut [u16],
+    b1: &mut [u16],
+    b2: &mut [u16],
+)
+    requires { ⌜ length (now b0) ≡ length (now a0) ⌝ }
+    requires { ⌜ length (now b1) ≡ length (now a1) ⌝ }
+    requires { ⌜ length (now b2) ≡ length (now a2) ⌝ }
+    ensures { λ _. ⌜ now (b0 .exit) ≡ now (a0 .entry) ⌝ }
+    ensures { λ _. ⌜ now (b1 .exit) ≡ now (a1 .entry) ⌝ }
+    ensures { λ _. ⌜ now (b2 .exit) ≡ now (a2 .entry) ⌝ }
+{
+    copy(a0, b0);
+    copy(a1, b1);
+    copy(a2, b2);
+}
+
+// The luma matrices, either way: the prepared lines say which.
+pub fn luma(
+    lines: Lines,
+    a0: &[u16],
+    a1: &[u16],
+    a2: &[u16],
+    b0: &mut [u16],
+    b1: &mut [u16],
+    b2: &mut [u16],
+)
+    requires { ⌜ Rooms lines ⌝ }
+    requires { ⌜ Abreast (now a0) (now a1) (now a2) (now b0) (now b1) (now b2) ⌝ }
+    requires { ⌜ Every SamplesServed (now a0) (now a1) (now a2) ⌝ }
+    ensures { λ _. ⌜ now (b0 .exit) ≡ rowOf 0 (pixelOf lines) (now (a0 .entry)) (now (a1 .entry)) (now (a2 .entry)) ⌝ }
+    ensures { λ _. ⌜ now (b1 .exit) ≡ rowOf 1 (pixelOf lines) (now (a0 .entry)) (now (a1 .entry)) (now (a2 .entry)) ⌝ }
+    ensures { λ _. ⌜ now (b2 .exit) ≡ rowOf 2 (pixelOf lines) (now (a0 .entry)) (now (a1 .entry)) (now (a2 .entry)) ⌝ }
+{
+    for i in 0..a0.len() {
+        let p = pixel_in(a0, a1, a2, i);
+        let q = levels::prepared::pixel_of(lines, p);
+        put(b0, b1, b2, i, q);
+    }
+}
+
+// The lossy formulas, forward.
+pub fn lossy_forward(
+    d: Depths,
+    a0: &[u16],
+    a1: &[u16],
+    a2: &[u16],
+    b0: &mut [u16],
+    b1: &mut [u16],
+    b2: &mut [u16],
+)
+    requires { ⌜ Plain d ⌝ }
+    requires { ⌜ Abreast (now a0) (now a1) (now a2) (now b0) (now b1) (now b2) ⌝ }
+    ensures { λ _. ⌜ now (b0 .exit) ≡ rowOf 0 (lossyForward d) (now (a0 .entry)) (now (a1 .entry)) (now (a2 .entry)) ⌝ }
+    ensures { λ _. ⌜ now (b1 .exit) ≡ rowOf 1 (lossyForward d) (now (a0 .entry)) (now (a1 .entry)) (now (a2 .entry)) ⌝ }
+    ensures { λ _. ⌜ now (b2 .exit) ≡ rowOf 2 (lossyForward d) (now (a0 .entry)) (now (a1 .entry)) (now (a2 .entry)) ⌝ }
+{
+    for i in 0..a0.len() {
+        let p = pixel_in(a0, a1, a2, i);
+        let q = ycgco::lossy_forward(d, p);
+        put(b0, b1, b2, i, q);
+    }
+}
+
+// The lossy formulas, back.
+pub fn lossy_reverse(
+    d: Depths,
+    a0: &[u16],
+    a1: &[u16],
+    a2: &[u16],
+    b0: &mut [u16],
+    b1: &mut [u16],
+    b2: &mut [u16],
+)
+    requires { ⌜ Plain d ⌝ }
+    requires { ⌜ Abreast (now a0) (now a1) (now a2) (now b0) (now b1) (now b2) ⌝ }
+    ensures { λ _. ⌜ now (b0 .exit) ≡ rowOf 0 (lossyReverse d) (now (a0 .entry)) (now (a1 .entry)) (now (a2 .entry)) ⌝ }
+    ensures { λ _. ⌜ now (b1 .exit) ≡ rowOf 1 (lossyReverse d) (now (a0 .entry)) (now (a1 .entry)) (now (a2 .entry)) ⌝ }
+    ensures { λ _. ⌜ now (b2 .exit) ≡ rowOf 2 (lossyReverse d) (now (a0 .entry)) (now (a1 .entry)) (now (a2 .entry)) ⌝ }
+{
+    for i in 0..a0.len() {
+        let p = pixel_in(a0, a1, a2, i);
+        let q = ycgco::lossy_reverse(d, p);
+        put(b0, b1, b2, i, q);
+    }
+}
+
+// The lossless formulas, forward.
+pub fn lossless_forward(
+    d: Depths,
+    a0: &[u16],
+    a1: &[u16],
+    a2: &[u16],
+    b0: &mut [u16],
+    b1: &mut [u16],
+    b2: &mut [u16],
+)
+    requires { ⌜ Roomy d ⌝ }
+    requires { ⌜ Abreast (now a0) (now a1) (now a2) (now b0) (now b1) (now b2) ⌝ }
+    requires { ⌜ Every (InsideRGB d) (now a0) (now a1) (now a2) ⌝ }
+    ensures { λ _. ⌜ now (b0 .exit) ≡ rowOf 0 (losslessForward d) (now (a0 .entry)) (now (a1 .entry)) (now (a2 .entry)) ⌝ }
+    ensures { λ _. ⌜ now (b1 .exit) ≡ rowOf 1 (losslessForward d) (now (a0 .entry)) (now (a1 .entry)) (now (a2 .entry)) ⌝ }
+    ensures { λ _. ⌜ now (b2 .exit) ≡ rowOf 2 (losslessForward d) (now (a0 .entry)) (now (a1 .entry)) (now (a2 .entry)) ⌝ }
+{
+    for i in 0..a0.len() {
+        let p = pixel_in(a0, a1, a2, i);
+        let q = ycgco::lossless_forward(d, p);
+        put(b0, b1, b2, i, q);
+    }
+}
+
+// The lossless formulas, back.
+pub fn lossless_reverse(
+    d: Depths,
+    a0: &[u16],
+    a1: &[u16],
+    a2: &[u16],
+    b0: &mut [u16],
+    b1: &mut [u16],
+    b2: &mut [u16],
+)
+    requires { ⌜ Roomy d ⌝ }
+    requires { ⌜ Abreast (now a0) (now a1) (now a2) (now b0) (now b1) (now b2) ⌝ }
+    ensures { λ _. ⌜ now (b0 .exit) ≡ rowOf 0 (losslessReverse d) (now (a0 .entry)) (now (a1 .entry)) (now (a2 .entry)) ⌝ }
+    ensures { λ _. ⌜ now (b1 .exit) ≡ rowOf 1 (losslessReverse d) (now (a0 .entry)) (now (a1 .entry)) (now (a2 .entry)) ⌝ }
+    ensures { λ _. ⌜ now (b2 .exit) ≡ rowOf 2 (losslessReverse d) (now (a0 .entry)) (now (a1 .entry)) (now (a2 .entry)) ⌝ }
+{
+    for i in 0..a0.len() {
+        let p = pixel_in(a0, a1, a2, i);
+        let q = ycgco::lossless_reverse(d, p);
+        put(b0, b1, b2, i, q);
+    }
+}
