@@ -3,12 +3,10 @@ mod paint;
 
 ghost use mathlib.Core.Path.{_≡_};
 ghost use lib.ListN.{length};
-ghost use Rattle.pixel.specs.Pixel.{callOf};
 ghost use Rattle.frame.specs.Frame.{sourceOf, outputOf, frameAnswer, outPlane};
 use pixel::Way;
 use plane::size::Side;
 use refusal::Refusal;
-use setting::Call;
 use setting::Setting;
 use setting::verdict::Verdict;
 
@@ -23,16 +21,6 @@ pub struct Size {
 pub enum FrameAnswer {
     Done,
     Refused(Refusal),
-}
-
-// The call that a conversion is.
-fn call_of(way: Way) -> Call
-    ensures { λ r. ⌜ r ≡ callOf way ⌝ }
-{
-    match way {
-        Way::Forward => Call::Forward,
-        Way::Reverse => Call::Reverse,
-    }
 }
 
 // A frame, converted. Whatever is answered, every element of the three output planes is set: to zero by a refusal.
@@ -63,7 +51,7 @@ pub fn convert_frame(
         n2: b2.len(),
     };
     match picture::judge(
-        call_of(way),
+        pixel::call_of(way),
         way,
         s,
         width,

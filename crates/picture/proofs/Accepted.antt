@@ -1,27 +1,19 @@
 -- What is known of a call on a picture that nothing refused: no row applies, so its setting is ready, its sides are served and every
 -- sample inside the picture is within its depth.
-use mathlib.Core.Path.{_≡_, refl, sym, ap, _∙_}
+use mathlib.Core.Path.{_≡_, sym, _∙_}
 use mathlib.Core.List.{List, [], _∷_}
-use Prim.Native.Nat.{ℕ, _+_, _-_, _^_, _≤_, _<_}
+use Prim.Native.Nat.{ℕ, _-_, _^_, _≤_, _<_}
 use native.Mathlib.Omega.{arith}
-use lib.Dec.{eqb}
-use borrow.Author.Tests.{eqb-true}
-use lib.ListN.{getD, length}
 use lib.Pow.{pow-pos}
 use Rattle.sample.specs.declared.Depths.{Depths}
-use Rattle.sample.proofs.Picks.{chose-first}
-use Rattle.refusal.specs.Table.{plain, orElse, badAt}
-use Rattle.refusal.specs.declared.Refusal.{Refusal}
 use Rattle.refusal.proofs.TableLaws.{neither}
-use Rattle.setting.specs.Refusals.{depths, served, refusalOf}
+use Rattle.setting.specs.Refusals.{depths, served, refusalOf, judged}
 use Rattle.setting.specs.declared.Call.{Call}
 use Rattle.setting.specs.declared.Setting.{Setting}
 use Rattle.setting.specs.declared.verdict.Served.{Served}
 use Rattle.setting.specs.declared.verdict.Verdict.the-variants as verdict
 use Rattle.plane.specs.Sizes.{sizeRefusal, EverySide, ServedSide}
-use Rattle.plane.specs.First.{badSample}
-use Rattle.plane.specs.declared.search.Found.{Found}
-use Rattle.plane.specs.declared.search.Found.the-variants.{At, Nothing}
+use Rattle.plane.specs.declared.search.Found.the-variants.{Nothing}
 use Rattle.plane.specs.declared.size.Side.{Side}
 use Rattle.plane.proofs.SizeTheorems as sizes
 use Rattle.plane.proofs.SearchTheorems.{nothing-in-planes-means}
@@ -31,8 +23,8 @@ use Rattle.pixel.specs.declared.Way.{Way}
 use Rattle.pixel.specs.declared.Way.the-variants.{Forward, Reverse}
 use Rattle.pixel.proofs.ReadyLaws.{ready}
 use Rattle.picture.specs.Picture.{Picture, planes, sideOfPicture, EveryPixel}
-use Rattle.picture.specs.Verdict.{largest, beyondDepth, unlessFound, numberBefore10, pictureVerdict}
-use Rattle.picture.proofs.VerdictLaws.{never-both, by-sample}
+use Rattle.picture.specs.Verdict.{beyondDepth, numberBefore10, pictureVerdict}
+use Rattle.picture.proofs.VerdictLaws.{told-served, past-both, by-sample}
 
 -- no row applies
 pub record Accepted (call : Call) (way : Way) (s : Setting) (a : Picture) (others : List Side) : Type 0 where
@@ -43,10 +35,6 @@ pub record Accepted (call : Call) (way : Way) (s : Setting) (a : Picture) (other
 -- a sample that is not above the largest of its depth
 within : (d v : ℕ) → v ≤ 2 ^ d - 1 → v < 2 ^ d
 within d v h = omega (arith, pow-pos d)
-
-nothing-found : (f : Found) (x y : Served) → unlessFound f x ≡ verdict.Served y → (f ≡ Nothing) × (x ≡ y)
-nothing-found (At place) x y e = absurd (never-both y (badAt place) (sym e))
-nothing-found Nothing x y e = (refl, (cc))
 
 -- every sample within its depth, by the way in which the picture is read
 inside-by : (way : Way) (d : Depths) (a : Picture) → beyondDepth way d a ≡ Nothing → EveryPixel (InsideSource way d) a
@@ -69,11 +57,10 @@ module _ (call : Call) (way : Way) (s : Setting) (a : Picture) (others : List Si
   pub accepted-of : (x : Served) → pictureVerdict call way s a others ≡ verdict.Served x → Accepted call way s a others × (served s ≡ x)
   unfolding pictureVerdict
   accepted-of x e =
-      let n = numberBefore10 call s a others in
-      let t = chose-first (eqb n 0) _ _ _ e (λ q. never-both x (plain n) (sym q)) in
-      let u = neither (refusalOf call s) _ (eqb-true n 0 (t .0)) in
-      let f = nothing-found (beyondDepth way (depths s) a) (served s) x (t .1) in
-      (record { setting = u .0; sizes = u .1; samples = f .0 }, f .1)
+      let p = past-both (judged (numberBefore10 call s a others) (served s)) (beyondDepth way (depths s) a) x e in
+      let t = told-served (numberBefore10 call s a others) (served s) x (p .0) in
+      let n = neither (refusalOf call s) (sizeRefusal (a .width) (a .height) (sideOfPicture a ∷ others)) (t .0) in
+      (record { setting = n .0; sizes = n .1; samples = p .1 }, t .1)
 
   pub of-accepted : Accepted call way s a others → pictureVerdict call way s a others ≡ verdict.Served (served s)
   of-accepted k = sym (by-sample call way s a others (k .setting) (k .sizes)) ∙ rw (k .samples)

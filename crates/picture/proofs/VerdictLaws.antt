@@ -1,4 +1,4 @@
--- The verdict on a picture, by what the code has found out so far, and what is known of a call that nothing refused.
+-- The verdict on a picture, by what the code has found out so far.
 use mathlib.Core.Path.{_≡_, refl, sym, ap, _∙_}
 use mathlib.Core.List.{List, [], _∷_}
 use Prim.Native.Nat.{ℕ}
@@ -6,24 +6,29 @@ use native.Mathlib.Omega.{arith}
 use borrow.Author.Tests.{eqb-true, eqb-false, ne-eqb}
 use lib.Dec.{eqb}
 use Rattle.sample.proofs.Picks.{chose-first, chose-second}
-use Rattle.refusal.specs.Table.{plain}
+use Rattle.refusal.specs.Table.{plain, badAt}
 use Rattle.refusal.specs.declared.Refusal.{Refusal}
 use Rattle.setting.specs.Refusals.{depths, served, refusalOf, judged, verdictOf}
 use Rattle.setting.specs.declared.Call.{Call}
 use Rattle.setting.specs.declared.Setting.{Setting}
 use Rattle.setting.specs.declared.verdict.Served.{Served}
+use Rattle.setting.specs.declared.verdict.Verdict.{Verdict}
 use Rattle.setting.specs.declared.verdict.Verdict.the-variants as verdict
+use Rattle.setting.proofs.RefusalLaws.{judged-served, judged-refused}
 use Rattle.plane.specs.Sizes.{sizeRefusal}
+use Rattle.plane.specs.declared.search.Found.{Found}
+use Rattle.plane.specs.declared.search.Found.the-variants as found
 use Rattle.plane.specs.declared.size.Side.{Side}
+use Rattle.pixel.specs.Ready.{ThreeDepths, Ready}
 use Rattle.pixel.specs.declared.Way.{Way}
 use Rattle.picture.specs.Picture.{Picture, sideOfPicture}
-use Rattle.picture.specs.Verdict.{beyondDepth, unlessFound, pictureVerdict}
+use Rattle.picture.specs.Verdict.{beyondDepth, pastServed, past, numberBefore10, pictureVerdict}
 
 -- a verdict is one of the two
-pub never-both : (x : Served) (r : Refusal) → verdict.Served x ≡ verdict.Refused r → ⊥
+never-both : (x : Served) (r : Refusal) → verdict.Served x ≡ verdict.Refused r → ⊥
 never-both x r e = let z : _≡_ {A = ℕ} 0 1 = cc in omega arith
 
--- what the setting's verdict tells of its number
+-- what a verdict tells of the number that it was made by
 pub told-served : (n : ℕ) (x y : Served) → judged n x ≡ verdict.Served y → (n ≡ 0) × (x ≡ y)
 unfolding judged
 told-served n x y e =
@@ -36,22 +41,34 @@ told-refused n x r e =
     let t = chose-second (eqb n 0) _ _ _ e (never-both x r) in
     (eqb-false n 0 (t .0), (let q = t .1 in cc))
 
--- the verdict, row by row
+-- what was served past row 10 was served before it, and no sample is bad
+served-past : (y : Served) (f : Found) (x : Served) → pastServed y f ≡ verdict.Served x → (y ≡ x) × (f ≡ found.Nothing)
+served-past y (found.At place) x e = absurd (never-both x (badAt place) (sym e))
+served-past y found.Nothing x e = ((let q = e in cc), refl)
+
+pub past-both : (v : Verdict) (f : Found) (x : Served) → past v f ≡ verdict.Served x → (v ≡ verdict.Served x) × (f ≡ found.Nothing)
+past-both (verdict.Refused r) f x e = absurd (never-both x r (sym e))
+past-both (verdict.Served y) f x e = let t = served-past y f x e in (ap verdict.Served (t .0), t .1)
+
+pub three : {x : Served} → Ready x → ThreeDepths (x .depths)
+three r = record { rgb = r .rgb; luma = r .luma; chroma = r .chroma }
+
+-- the verdict, group by group of rows
 module _ (call : Call) (way : Way) (s : Setting) (a : Picture) (others : List Side) where
   abbrev sizes : ℕ
   sizes = sizeRefusal (a .width) (a .height) (sideOfPicture a ∷ others)
 
   pub by-setting : (r : Refusal) → verdictOf call s ≡ verdict.Refused r → verdict.Refused r ≡ pictureVerdict call way s a others
-  unfolding pictureVerdict
+  unfolding pictureVerdict judged
   by-setting r e =
       let t = told-refused (refusalOf call s) (served s) r e in
       let some = ne-eqb (refusalOf call s) 0 (t .0) in
       rw (some, some, t .1)
 
   pub by-size : refusalOf call s ≡ 0 → (sizes ≡ 0 → ⊥) → verdict.Refused (plain sizes) ≡ pictureVerdict call way s a others
-  unfolding pictureVerdict
+  unfolding pictureVerdict judged
   by-size e f = rw (e, ne-eqb sizes 0 f)
 
-  pub by-sample : refusalOf call s ≡ 0 → sizes ≡ 0 → unlessFound (beyondDepth way (depths s) a) (served s) ≡ pictureVerdict call way s a others
-  unfolding pictureVerdict
+  pub by-sample : refusalOf call s ≡ 0 → sizes ≡ 0 → pastServed (served s) (beyondDepth way (depths s) a) ≡ pictureVerdict call way s a others
+  unfolding pictureVerdict judged
   by-sample e f = rw (e, f)

@@ -6,7 +6,8 @@ use native.Mathlib.Omega.{arith}
 use lib.ListN.{length, getD, set}
 use lib.Seq.{ext-getD}
 use Rattle.sample.specs.declared.Pixel.{Pixel}
-use Rattle.levels.specs.Lines.{pixelOf, Rooms}
+use Rattle.levels.specs.Lines.{pixelOf}
+use Rattle.levels.specs.Room.{Rooms}
 use Rattle.levels.specs.Luma.{LumaServed}
 use Rattle.levels.specs.declared.LumaSetting.{LumaSetting}
 use Rattle.levels.proofs.Pixels.{forward-law, reverse-law}

@@ -2,7 +2,8 @@
 use mathlib.Core.Path.{_≡_, sym, ap, _∙_, subst}
 use native.Mathlib.Omega.{arith}
 use Prim.Native.Nat.{ℕ}
-use Rattle.levels.specs.Lines.{pixelOf, Rooms}
+use Rattle.levels.specs.Lines.{pixelOf}
+use Rattle.levels.specs.Room.{Rooms}
 use Rattle.pixel.specs.Pixel.{luma, lines}
 use Rattle.row.proofs.RowLaws.{rooms, by-lines, made-same}
 use borrow.Author.Needs.{needs}
