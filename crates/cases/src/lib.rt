@@ -2,6 +2,7 @@
 // is held to stored answers; no contract can speak of it, so the contracts here say where reading goes on.
 ghost use Prim.Native.Nat.{_≤_, _<_};
 ghost use lib.ListN.{length};
+
 mod pixels;
 mod planes;
 mod read;

@@ -44,7 +44,7 @@ reading-is-number k s v x h e =
     (λ y q. verdict-ready call.Meter s y (past-both (verdictOf call.Meter s) (badOne k (depths s) v) y q .0)) e
 
 levels-of : (p : Pixel) (d : Verdict) (l : Levels) → p .p0 ≤ 65536 → p .p1 ≤ 65536 → p .p2 ≤ 65536 → ((y : Served) → d ≡ verdict.Served y → Ready y)
-  → levelsBy p d ≡ levels.Levels l → IsNumber (l .y) × (IsNumber (l .cb) × IsNumber (l .cr))
+    → levelsBy p d ≡ levels.Levels l → IsNumber (l .y) × (IsNumber (l .cb) × IsNumber (l .cr))
 unfolding levelsOf
 levels-of p (verdict.Served y) l h0 h1 h2 r e =
     let q : levelsOf (y .«ycc_full») (y .depths .luma) (y .depths .chroma) p ≡ l = cc in
@@ -53,6 +53,6 @@ levels-of p (verdict.Served y) l h0 h1 h2 r e =
 levels-of p (verdict.Refused n) l h0 h1 h2 r e = absurd (let z : _≡_ {A = ℕ} 0 1 = cc in omega arith)
 
 pub levels-are-numbers : (s : Setting) (p : Pixel) (l : Levels) → p .p0 ≤ 65536 → p .p1 ≤ 65536 → p .p2 ≤ 65536 → levelsAnswer s p ≡ levels.Levels l
-  → IsNumber (l .y) × (IsNumber (l .cb) × IsNumber (l .cr))
+    → IsNumber (l .y) × (IsNumber (l .cb) × IsNumber (l .cr))
 unfolding levelsAnswer
 levels-are-numbers s p l h0 h1 h2 e = levels-of p (admitted call.Meter Reverse s p) l h0 h1 h2 (λ y q. let-in call.Meter Reverse s p y q .is-ready) e
