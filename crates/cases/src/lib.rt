@@ -8,16 +8,16 @@ mod planes;
 mod read;
 mod say;
 
-// One line from its first letter on: the position after what was read of it, or `at` where it is no case.
+// One line from its first letter on: the position after what was read of it.
 fn line(text: &[u8], at: usize) -> usize
     requires { ⌜ at < length (now text) ⌝ }
-    ensures { λ r. ⌜ at ≤ r ⌝ }
+    ensures { λ r. ⌜ at < r ⌝ }
 {
     let letter = text[at];
     match letter {
         b'F' => planes::frame_line(text, at + 1, true),
         b'R' => planes::frame_line(text, at + 1, false),
-        _ => pixels::line(text, at, letter),
+        _ => pixels::line(text, at + 1, letter),
     }
 }
 
@@ -26,10 +26,6 @@ pub fn all(text: &[u8]) {
     let mut at: usize = 0;
     while at < text.len() {
         let next = line(text, at);
-        if next <= at {
-            say::words(b"bad line\n");
-            return;
-        }
         if next < text.len() {
             at = next + 1;
         } else {

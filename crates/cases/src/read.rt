@@ -1,11 +1,11 @@
 // Numbers of a line: each stands after one blank.
-ghost use Prim.Native.Nat.{_≤_};
-ghost use lib.ListN.{length};
+ghost use mathlib.Core.Path.{_≡_};
+ghost use Prim.Native.Nat.{_%_, _≤_};
 use sample::Pixel;
 use setting::Setting;
 
 // A number, and the position after it.
-pub struct Number {
+pub struct ReadNumber {
     pub value: u64,
     pub next: usize,
 }
@@ -34,7 +34,7 @@ fn with_digit(value: u64, b: u8) -> u64 {
 }
 
 // The number after the blank at `at`.
-pub fn number(s: &[u8], at: usize) -> Number
+pub fn number(s: &[u8], at: usize) -> ReadNumber
     ensures { λ r. ⌜ at ≤ r .next ⌝ }
 {
     let mut value: u64 = 0;
@@ -53,14 +53,18 @@ pub fn number(s: &[u8], at: usize) -> Number
         value = with_digit(value, b);
         i += 1;
     }
-    Number { value, next: i }
+    ReadNumber { value, next: i }
 }
 
-fn byte(n: u64) -> u8 {
+pub fn byte(n: u64) -> u8
+    ensures { λ r. ⌜ r ≡ n % 256 ⌝ }
+{
     (n % 256) as u8
 }
 
-fn sample_of(n: u64) -> u16 {
+pub fn sample_of(n: u64) -> u16
+    ensures { λ r. ⌜ r ≡ n % 65536 ⌝ }
+{
     (n % 65536) as u16
 }
 

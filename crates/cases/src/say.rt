@@ -1,6 +1,5 @@
 // Answers as lines of text.
 use libc::STDOUT_FILENO;
-use meter::Levels;
 use refusal::Refusal;
 use sample::Pixel;
 use setting::label::Label;
@@ -55,4 +54,21 @@ pub fn label(l: Label) {
         Label::Unspecified => words(b"unspecified\n"),
         Label::Reserved => words(b"reserved\n"),
     }
+}
+
+// Floats by their bits.
+pub fn level(bits: u32) {
+    words(b"level ");
+    io::print_hex(STDOUT_FILENO, bits as u64, 8);
+    words(b"\n");
+}
+
+pub fn levels(y: u32, cb: u32, cr: u32) {
+    words(b"levels ");
+    io::print_hex(STDOUT_FILENO, y as u64, 8);
+    words(b" ");
+    io::print_hex(STDOUT_FILENO, cb as u64, 8);
+    words(b" ");
+    io::print_hex(STDOUT_FILENO, cr as u64, 8);
+    words(b"\n");
 }
