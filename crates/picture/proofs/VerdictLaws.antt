@@ -19,6 +19,7 @@ use Rattle.plane.specs.Sizes.{sizeRefusal}
 use Rattle.plane.specs.declared.search.Found.{Found}
 use Rattle.plane.specs.declared.search.Found.the-variants as found
 use Rattle.plane.specs.declared.size.Side.{Side}
+use Rattle.plane.proofs.SizeLaws.{twice}
 use Rattle.pixel.specs.Ready.{ThreeDepths, Ready}
 use Rattle.pixel.specs.declared.Way.{Way}
 use Rattle.picture.specs.Picture.{Picture, sideOfPicture}
@@ -72,3 +73,9 @@ module _ (call : Call) (way : Way) (s : Setting) (a : Picture) (others : List Si
   pub by-sample : refusalOf call s ≡ 0 → sizes ≡ 0 → pastServed (served s) (beyondDepth way (depths s) a) ≡ pictureVerdict call way s a others
   unfolding pictureVerdict judged
   by-sample e f = rw (e, f)
+
+-- a call that names its own side again
+pub own-side-again : (call : Call) (way : Way) (s : Setting) (a : Picture)
+    → pictureVerdict call way s a (sideOfPicture a ∷ []) ≡ pictureVerdict call way s a []
+unfolding pictureVerdict
+own-side-again call way s a = rw (twice (a .width) (a .height) (sideOfPicture a))

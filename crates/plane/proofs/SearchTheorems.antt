@@ -1,11 +1,12 @@
 -- What the answer of a search means, and that it depends on the picture's samples alone.
 use mathlib.Core.Path.{_≡_, refl, sym, _∙_, subst}
+use mathlib.Core.Bool.{Bool, true, false}
 use mathlib.Core.List.{List, [], _∷_}
 use mathlib.Core.Logic.{_↔_, ⊎-elim, inl, inr}
 use Prim.Native.Nat.{ℕ, zero, suc, _*_, _-_, _^_, _≤_, _<_}
 use native.Mathlib.Nat.{eq-or-lt-of-le, le-of-suc-le-suc, not-suc-le-zero}
 use native.Mathlib.Omega.{arith}
-use borrow.Author.Tests.{ltb-true, ltb-false}
+use borrow.Author.Tests.{ltb-true, ltb-false, lt-ltb, le-ltb}
 use lib.Dec.{ltb}
 use lib.ListN.{length, getD}
 use lib.Pow.{pow-pos}
@@ -13,10 +14,10 @@ use Rattle.sample.proofs.Picks.{chose-first, chose-second}
 use Rattle.refusal.specs.Table.{at}
 use Rattle.refusal.specs.declared.Place.{Place}
 use Rattle.plane.specs.Plane.{sampleAt, SamePicture}
-use Rattle.plane.specs.First.{orElse, firstOf, badHere, badInRow, firstBad, badSample, AllFine, IsFirstBad, IsBadSample}
+use Rattle.plane.specs.First.{orElse, firstOf, placeIf, placeInRow, firstPlace, isAbove, firstBad, badSample, AllFine, IsFirstPlace, IsFirstBad, IsBadSample}
 use Rattle.plane.specs.declared.search.Found.{Found}
 use Rattle.plane.specs.declared.search.Found.the-variants.{At, Nothing}
-use Rattle.plane.proofs.Searches.{first-here, none-of, first-same, sample-bad, sample-fine}
+use Rattle.plane.proofs.Searches.{first-here, none-of, first-same}
 
 -- a sample is above the largest of its depth exactly where it is 2^depth or more
 pub beyond-depth : (depth s : ℕ) → (2 ^ depth - 1 < s) ↔ (2 ^ depth ≤ s)
@@ -60,66 +61,91 @@ unfolding firstOf
 found-in f zero place e = absurd (something place (sym e))
 found-in f (suc n) place e = found-step f n place (firstOf n f) refl (found-in f n place) e
 
--- ---- one plane
+-- ---- the places of a picture
 
-module _ (p : List ℕ) (plane stride width height top : ℕ) where
-  here-is-fine : (j i : ℕ) → badHere p plane stride top j i ≡ Nothing → sampleAt p stride j i ≤ top
-  unfolding badHere
-  here-is-fine j i e = ltb-false top (sampleAt p stride j i) (chose-second (ltb top (sampleAt p stride j i)) _ _ _ e (something (at plane j i)) .0)
+-- a test of places, and what it is to fail and to pass it
+module _ (test : ℕ → ℕ → Bool) (plane width height : ℕ) (Fails Passes : ℕ → ℕ → Type 0)
+    (failing : (j i : ℕ) → j < height → i < width → (test j i ≡ true) ↔ Fails j i)
+    (passing : (j i : ℕ) → j < height → i < width → (test j i ≡ false) ↔ Passes j i) where
+  passed : (j i : ℕ) → j < height → i < width → placeIf test plane j i ≡ Nothing → Passes j i
+  unfolding placeIf
+  passed j i a b e = passing j i a b .0 (chose-second (test j i) _ _ _ e (something (at plane j i)) .0)
 
-  here-is-bad : (j i : ℕ) (place : Place) → badHere p plane stride top j i ≡ At place
-      → (top < sampleAt p stride j i) × (at plane j i ≡ place)
-  unfolding badHere
-  here-is-bad j i place e =
-      let t = chose-first (ltb top (sampleAt p stride j i)) _ _ _ e (λ q. something place (sym q)) in
-      (ltb-true top (sampleAt p stride j i) (t .0), (let q = t .1 in cc))
+  pass : (j i : ℕ) → j < height → i < width → Passes j i → placeIf test plane j i ≡ Nothing
+  unfolding placeIf
+  pass j i a b h = rw (passing j i a b .1 h)
 
-  row-none : (j : ℕ) → ((i : ℕ) → i < width → sampleAt p stride j i ≤ top) → badInRow p plane stride width top j ≡ Nothing
-  unfolding badInRow
-  row-none j h = none-of _ width (λ i l. sample-fine p plane stride top j (j * stride) refl i (h i l))
+  failed : (j i : ℕ) (place : Place) → j < height → i < width → placeIf test plane j i ≡ At place → Fails j i × (at plane j i ≡ place)
+  unfolding placeIf
+  failed j i place a b e =
+      let t = chose-first (test j i) _ _ _ e (λ q. something place (sym q)) in
+      (failing j i a b .0 (t .0), (let q = t .1 in cc))
 
-  row-all-fine : (j : ℕ) → badInRow p plane stride width top j ≡ Nothing → (i : ℕ) → i < width → sampleAt p stride j i ≤ top
-  unfolding badInRow
-  row-all-fine j e i l = here-is-fine j i (none-at _ width e i l)
+  row-passes : (j : ℕ) → j < height → ((i : ℕ) → i < width → Passes j i) → placeInRow test plane width j ≡ Nothing
+  unfolding placeInRow
+  row-passes j a h = none-of _ width (λ i b. pass j i a b (h i b))
 
-  -- Nothing: every sample is within its depth
-  pub nothing-means : (firstBad p plane stride width height top ≡ Nothing) ↔ AllFine p stride width height top
-  unfolding firstBad
-  nothing-means =
-      (λ e j i a b. row-all-fine j (none-at _ height e j a) i b, λ h. none-of _ height (λ j a. row-none j (λ i b. h j i a b)))
+  row-passed : (j : ℕ) → j < height → placeInRow test plane width j ≡ Nothing → (i : ℕ) → i < width → Passes j i
+  unfolding placeInRow
+  row-passed j a e i b = passed j i a b (none-at _ width e i b)
 
-  -- the place found is that of a sample beyond its depth, before which there is none
-  found-first : (place : Place) → firstBad p plane stride width height top ≡ At place → IsFirstBad p plane stride width height top place
-  unfolding firstBad badInRow
+  -- Nothing: every place passes
+  pub no-place-means : (firstPlace test plane width height ≡ Nothing) ↔ ((j i : ℕ) → j < height → i < width → Passes j i)
+  unfolding firstPlace
+  no-place-means =
+      (λ e j i a b. row-passed j a (none-at _ height e j a) i b, λ h. none-of _ height (λ j a. row-passes j a (λ i b. h j i a b)))
+
+  -- the place found fails, and every place before it passes
+  found-first : (place : Place) → firstPlace test plane width height ≡ At place → IsFirstPlace Fails Passes plane width height place
+  unfolding firstPlace placeInRow
   found-first place e =
       let r = found-in _ height place e in
       let c = found-in _ width place (r .there) in
-      let t = here-is-bad (r .index) (c .index) place (c .there) in
-      subst (IsFirstBad p plane stride width height top) (t .1)
+      let t = failed (r .index) (c .index) place (r .inside) (c .inside) (c .there) in
+      subst (IsFirstPlace Fails Passes plane width height) (t .1)
       (record {
         plane-is = refl;
         row-inside = r .inside;
         column-inside = c .inside;
-        beyond = t .0;
+        fails = t .0;
         none-before = λ j i a b o.
             ⊎-elim
-            (λ (w : j < r .index). row-all-fine j (r .none j w) i b)
-            (λ w. rw (w .0) (here-is-fine (r .index) i (c .none i (w .1)))) o;
+            (λ (w : j < r .index). row-passed j a (r .none j w) i b)
+            (λ w. subst (λ n. Passes n i) (sym (w .0)) (passed (r .index) i (r .inside) b (c .none i (w .1)))) o;
       })
 
-  first-found : (place : Place) → IsFirstBad p plane stride width height top place → firstBad p plane stride width height top ≡ At place
-  unfolding firstBad badInRow
+  first-found : (place : Place) → IsFirstPlace Fails Passes plane width height place → firstPlace test plane width height ≡ At place
+  unfolding firstPlace placeInRow placeIf
   first-found place k =
-      let rows = none-of _ (place .row) (λ j a. row-none j (λ i b. k .none-before j i (omega (arith, k .row-inside)) b (inl a))) in
+      let rows = none-of _ (place .row) (λ j a. row-passes j (omega (arith, k .row-inside)) (λ i b. k .none-before j i (omega (arith, k .row-inside)) b (inl a))) in
       let columns =
       none-of _ (place .column)
-      (λ i b. sample-fine p plane stride top (place .row) _ refl i (k .none-before (place .row) i (k .row-inside) (omega (arith, k .column-inside)) (inr (refl, b)))) in
-      first-here _ height (place .row) place (k .row-inside) rows
-      (first-here _ width (place .column) place (k .column-inside) columns
-      (sample-bad p plane stride top (place .row) _ refl (place .column) (k .beyond) ∙ rw (← k .plane-is)))
+      (λ i b. pass (place .row) i (k .row-inside) (omega (arith, k .column-inside)) (k .none-before (place .row) i (k .row-inside) (omega (arith, k .column-inside)) (inr (refl, b)))) in
+      let there : placeIf test plane (place .row) (place .column) ≡ At place =
+      rw (failing (place .row) (place .column) (k .row-inside) (k .column-inside) .1 (k .fails), ← k .plane-is) in
+      first-here _ height (place .row) place (k .row-inside) rows (first-here _ width (place .column) place (k .column-inside) columns there)
 
+  pub first-place-means : (place : Place) → (firstPlace test plane width height ≡ At place) ↔ IsFirstPlace Fails Passes plane width height place
+  first-place-means place = (found-first place, first-found place)
+
+-- ---- one plane
+
+module _ (p : List ℕ) (plane stride width height top : ℕ) where
+  above : (j i : ℕ) → j < height → i < width → (isAbove p stride top j i ≡ true) ↔ (top < sampleAt p stride j i)
+  above j i a b = (ltb-true top (sampleAt p stride j i), lt-ltb top (sampleAt p stride j i))
+
+  not-above : (j i : ℕ) → j < height → i < width → (isAbove p stride top j i ≡ false) ↔ (sampleAt p stride j i ≤ top)
+  not-above j i a b = (ltb-false top (sampleAt p stride j i), le-ltb top (sampleAt p stride j i))
+
+  -- Nothing: every sample is within its depth
+  pub nothing-means : (firstBad p plane stride width height top ≡ Nothing) ↔ AllFine p stride width height top
+  unfolding firstBad
+  nothing-means = no-place-means (isAbove p stride top) plane width height _ _ above not-above
+
+  -- the place found is that of a sample beyond its depth, before which there is none
   pub at-means : (place : Place) → (firstBad p plane stride width height top ≡ At place) ↔ IsFirstBad p plane stride width height top place
-  at-means place = (found-first place, first-found place)
+  unfolding firstBad
+  at-means place = first-place-means (isAbove p stride top) plane width height _ _ above not-above place
 
 -- ---- some planes
 
@@ -163,11 +189,17 @@ module _ (planes : List (List ℕ)) (stride width height : ℕ) (tops : List ℕ
 
 -- ---- padding never matters
 
+-- what is found depends on the test inside the picture alone
+pub first-place-same : (f g : ℕ → ℕ → Bool) (plane width height : ℕ) → ((j i : ℕ) → j < height → i < width → f j i ≡ g j i)
+    → firstPlace f plane width height ≡ firstPlace g plane width height
+unfolding firstPlace placeInRow placeIf
+first-place-same f g plane width height e = first-same _ _ height (λ j a. first-same _ _ width (λ i b. rw (e j i a b)))
+
 pub first-bad-same : (p q : List ℕ) (plane stride width height top : ℕ) → SamePicture stride width height p q
     → firstBad p plane stride width height top ≡ firstBad q plane stride width height top
-unfolding firstBad badInRow badHere
+unfolding firstBad
 first-bad-same p q plane stride width height top e =
-    first-same _ _ height (λ j a. first-same _ _ width (λ i b. rw (e j i a b)))
+    first-place-same (isAbove p stride top) (isAbove q stride top) plane width height (λ j i a b. rw (e j i a b))
 
 pub bad-sample-same : (p0 p1 p2 q0 q1 q2 : List ℕ) (stride width height : ℕ) (tops : List ℕ)
     → SamePicture stride width height p0 q0 → SamePicture stride width height p1 q1 → SamePicture stride width height p2 q2

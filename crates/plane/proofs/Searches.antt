@@ -10,7 +10,7 @@ use borrow.Author.Tests.{lt-ltb, le-ltb}
 use lib.ListN.{length, getD, take, drop}
 use Rattle.refusal.specs.Table.{at}
 use Rattle.refusal.specs.declared.Place.{Place}
-use Rattle.plane.specs.First.{orElse, firstOf, badHere, badInRow, NoneAbove}
+use Rattle.plane.specs.First.{orElse, firstOf, placeIf, placeInRow, isAbove, NoneAbove}
 use Rattle.plane.specs.declared.search.Found.{Found}
 use Rattle.plane.specs.declared.search.Found.the-variants.{At, Nothing}
 use Rattle.plane.proofs.Tables.{part-length, part-at}
@@ -47,18 +47,18 @@ first-same f g (suc n) e = rw (first-same f g n (λ i h. e i (omega arith)), e n
 
 -- a sample of row j, which starts at a
 module _ (p : List ℕ) (plane stride top j a : ℕ) (starts : a ≡ j * stride) where
-  pub sample-bad : (i : ℕ) → top < getD p (a + i) 0 → badHere p plane stride top j i ≡ At (at plane j i)
-  unfolding badHere
+  pub sample-bad : (i : ℕ) → top < getD p (a + i) 0 → placeIf (isAbove p stride top) plane j i ≡ At (at plane j i)
+  unfolding placeIf
   sample-bad i h = rw (← starts, lt-ltb _ _ h)
 
-  pub sample-fine : (i : ℕ) → getD p (a + i) 0 ≤ top → badHere p plane stride top j i ≡ Nothing
-  unfolding badHere
+  pub sample-fine : (i : ℕ) → getD p (a + i) 0 ≤ top → placeIf (isAbove p stride top) plane j i ≡ Nothing
+  unfolding placeIf
   sample-fine i h = rw (← starts, le-ltb _ _ h)
 
   -- no sample of the row is above m, and m is not above top
   pub row-fine : (width m : ℕ) → a + width ≤ length p → NoneAbove (take (a + width - a) (drop a p)) m → m ≤ top
-      → badInRow p plane stride width top j ≡ Nothing
-  unfolding badInRow
+      → placeInRow (isAbove p stride top) plane width j ≡ Nothing
+  unfolding placeInRow
   row-fine width m h e l =
       none-of _ width
       (λ i k.

@@ -1,6 +1,6 @@
 -- Refusal 10 names the first bad sample: lowest plane, in it lowest row, in it lowest column.
 use mathlib.Core.Path.{_≡_}
-use mathlib.Core.Bool.{cond}
+use mathlib.Core.Bool.{Bool, cond}
 use mathlib.Core.List.{List, []}
 use mathlib.Core.Logic.{_⊎_}
 use Prim.Native.Nat.{ℕ, zero, suc, _≤_, _<_}
@@ -22,17 +22,25 @@ unfoldable pub firstOf : ℕ → (ℕ → Found) → Found
 firstOf zero f = Nothing
 firstOf (suc n) f = orElse (firstOf n f) (f n)
 
--- the sample at row j and column i, if it is above top, the largest that its depth has
-unfoldable pub badHere : List ℕ → ℕ → ℕ → ℕ → ℕ → ℕ → Found
-badHere p plane stride top j i = cond (ltb top (sampleAt p stride j i)) (At (at plane j i)) Nothing
+-- the place of row j and column i of a plane, if a test holds there
+unfoldable pub placeIf : (ℕ → ℕ → Bool) → ℕ → ℕ → ℕ → Found
+placeIf test plane j i = cond (test j i) (At (at plane j i)) Nothing
 
--- the first bad sample of row j
-unfoldable pub badInRow : List ℕ → ℕ → ℕ → ℕ → ℕ → ℕ → Found
-badInRow p plane stride width top j = firstOf width (badHere p plane stride top j)
+-- the first such place of row j
+unfoldable pub placeInRow : (ℕ → ℕ → Bool) → ℕ → ℕ → ℕ → Found
+placeInRow test plane width j = firstOf width (placeIf test plane j)
+
+-- the first such place of a picture, by row and then by column
+unfoldable pub firstPlace : (ℕ → ℕ → Bool) → ℕ → ℕ → ℕ → Found
+firstPlace test plane width height = firstOf height (placeInRow test plane width)
+
+-- whether the sample at row j and column i is above top, the largest that its depth has
+abbrev pub isAbove : List ℕ → ℕ → ℕ → ℕ → ℕ → Bool
+isAbove p stride top j i = ltb top (sampleAt p stride j i)
 
 -- the first bad sample of a plane
 unfoldable pub firstBad : List ℕ → ℕ → ℕ → ℕ → ℕ → ℕ → Found
-firstBad p plane stride width height top = firstOf height (badInRow p plane stride width top)
+firstBad p plane stride width height top = firstPlace (isAbove p stride top) plane width height
 
 -- the first bad sample of some planes, each with its own top
 unfoldable pub badSample : List (List ℕ) → ℕ → ℕ → ℕ → List ℕ → Found
@@ -51,13 +59,18 @@ AllFine p stride width height top = (j i : ℕ) → j < height → i < width →
 abbrev pub Before : ℕ → ℕ → ℕ → ℕ → Type 0
 Before j i row column = (j < row) ⊎ ((j ≡ row) × (i < column))
 
--- what it is to be the first bad sample of a plane
-pub record IsFirstBad (p : List ℕ) (plane stride width height top : ℕ) (place : Place) : Type 0 where
+-- what it is to be the first place of a picture that fails: it does, and every place before it passes
+pub record IsFirstPlace (Fails Passes : ℕ → ℕ → Type 0) (plane width height : ℕ) (place : Place) : Type 0 where
   pub plane-is : place .plane ≡ plane
   pub row-inside : place .row < height
   pub column-inside : place .column < width
-  pub beyond : top < sampleAt p stride (place .row) (place .column)
-  pub none-before : (j i : ℕ) → j < height → i < width → Before j i (place .row) (place .column) → sampleAt p stride j i ≤ top
+  pub fails : Fails (place .row) (place .column)
+  pub none-before : (j i : ℕ) → j < height → i < width → Before j i (place .row) (place .column) → Passes j i
+
+-- what it is to be the first bad sample of a plane
+abbrev pub IsFirstBad : List ℕ → ℕ → ℕ → ℕ → ℕ → ℕ → Place → Type 0
+IsFirstBad p plane stride width height top =
+    IsFirstPlace (λ j i. top < sampleAt p stride j i) (λ j i. sampleAt p stride j i ≤ top) plane width height
 
 -- and that of some planes
 pub record IsBadSample (planes : List (List ℕ)) (stride width height : ℕ) (tops : List ℕ) (place : Place) : Type 0 where

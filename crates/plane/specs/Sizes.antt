@@ -4,7 +4,7 @@ use mathlib.Core.Bool.{Bool, false, _||_}
 use mathlib.Core.List.{List, [], _∷_}
 use Prim.Native.Nat.{ℕ, _+_, _*_, _-_, _≤_}
 use lib.Dec.{ltb}
-use Rattle.refusal.specs.Table.{row, first}
+use Rattle.refusal.specs.Table.{Row, row, first}
 use Rattle.plane.specs.declared.size.Side.{Side}
 
 abbrev pub mostSize : ℕ
@@ -47,12 +47,15 @@ unfoldable pub sideShort : ℕ → ℕ → Side → Bool
 sideShort width height side = anyShort (needed width height (side .stride)) (side .n0) (side .n1) (side .n2)
 
 -- rows 8 and 9 of the refusals, for the sides that a call has
-unfoldable pub sizeRefusal : ℕ → ℕ → List Side → ℕ
-sizeRefusal width height sides =
-    first
-    (row 8 (pictureOutside width height || someSide (strideOutside width) sides)
+abbrev pub sizeRows : ℕ → ℕ → List Side → List Row
+sizeRows width height sides =
+    row 8 (pictureOutside width height || someSide (strideOutside width) sides)
     ∷ row 9 (someSide (sideShort width height) sides)
-    ∷ [])
+    ∷ []
+
+-- the first of them that applies, or 0
+unfoldable pub sizeRefusal : ℕ → ℕ → List Side → ℕ
+sizeRefusal width height sides = first (sizeRows width height sides)
 
 -- n from least to most, as a fact
 pub record Within (n least most : ℕ) : Type 0 where

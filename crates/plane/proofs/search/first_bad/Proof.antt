@@ -3,7 +3,7 @@ use mathlib.Core.Path.{_≡_, refl, sym, _∙_}
 use Prim.Native.Nat.{_≤_, _-_}
 use native.Mathlib.Omega.{arith}
 use borrow.Author.Needs.{needs}
-use Rattle.plane.specs.First.{firstOf, badHere, badInRow, firstBad}
+use Rattle.plane.specs.First.{firstOf, placeIf, placeInRow, firstPlace, isAbove, firstBad}
 use Rattle.plane.specs.declared.search.Found.the-variants.{Nothing}
 use Rattle.plane.proofs.Searches.{none-more, none-all, first-here, sample-bad, sample-fine, row-fine}
 use Rattle.plane.proofs.search.first_bad.Statement.{statement}
@@ -11,14 +11,14 @@ use Rattle.plane.proofs.search.first_bad.Tie as tie
 
 abbrev Inv-loop : tie.InvT-loop
 Inv-loop p plane stride width height top found₀ j a e i₀ found i =
-    (i ≤ width) × ((found ≡ Nothing) × (firstOf i (badHere p plane stride top j) ≡ Nothing))
+    (i ≤ width) × ((found ≡ Nothing) × (firstOf i (placeIf (isAbove p stride top) plane j) ≡ Nothing))
 
 abbrev μ-loop : tie.MeasureT-loop
 μ-loop p plane stride width height top found₀ j a e i₀ found i = width - i
 
 abbrev Inv-rows : tie.InvT-rows
 Inv-rows p plane stride width height top found₀ j₀ found j =
-    (j ≤ height) × ((found ≡ Nothing) × (firstOf j (badInRow p plane stride width top) ≡ Nothing))
+    (j ≤ height) × ((found ≡ Nothing) × (firstOf j (placeInRow (isAbove p stride top) plane width) ≡ Nothing))
 
 abbrev μ-rows : tie.MeasureT-rows
 μ-rows p plane stride width height top found₀ j₀ found j = height - j
@@ -89,7 +89,8 @@ loop-less c = search needs
 loop-again : tie.Need-loop-again Inv-loop μ-loop Inv-rows μ-rows
 loop-again c =
     let l = c .before .before .before .loop in
-    let none = sample-fine _ _ _ _ _ _ (c .before .before .before .before .before .before .before .row-start .ensures .is) (l .i) (c .if2 .left) in
+    let x = c .before .before .before .before .before .before .before .before .before .before .before .args in
+    let none = sample-fine (x .p .now) (x .plane) _ _ _ _ (c .before .before .before .before .before .before .before .row-start .ensures .is) (l .i) (c .if2 .left) in
     (omega arith, (l .inv .1 .0, none-more _ (l .i) (l .inv .1 .1) none))
 
 add-j-2 : tie.Need-add-j-2 Inv-loop μ-loop Inv-rows μ-rows
@@ -99,24 +100,25 @@ rows-less-2 : tie.Need-rows-less-2 Inv-loop μ-loop Inv-rows μ-rows
 rows-less-2 c = search needs
 
 rows-again-2 : tie.Need-rows-again-2 Inv-loop μ-loop Inv-rows μ-rows
-unfolding badInRow
+unfolding placeInRow
 rows-again-2 c =
     let r = c .before .before .before .before .before .before .before .rows in
     let l = c .before .loop in
     (omega arith, (l .inv .1 .0, none-more _ (r .j) (r .inv .1 .1) (none-all _ (l .i) _ (omega arith) (l .inv .1 .1))))
 
 returns : tie.Need-returns Inv-loop μ-loop Inv-rows μ-rows
-unfolding firstBad
+unfolding firstBad firstPlace
 returns c =
     let r = c .before .rows in
     r .inv .1 .0 ∙ sym (none-all _ (r .j) _ (omega arith) (r .inv .1 .1))
 
 returns-2 : tie.Need-returns-2 Inv-loop μ-loop Inv-rows μ-rows
-unfolding firstBad badInRow
+unfolding firstBad firstPlace placeInRow
 returns-2 c =
     let r = c .before .before .before .before .before .before .before .before .before .rows in
     let l = c .before .before .before .loop in
-    let found = sample-bad _ _ _ _ _ _ (c .before .before .before .before .before .before .before .row-start .ensures .is) (l .i) (c .if2 .taken) in
+    let x = c .before .before .before .before .before .before .before .before .before .before .before .args in
+    let found = sample-bad (x .p .now) (x .plane) _ _ _ _ (c .before .before .before .before .before .before .before .row-start .ensures .is) (l .i) (c .if2 .taken) in
     sym
     (first-here _ _ (r .j) _ (omega arith) (r .inv .1 .1)
     (first-here _ _ (l .i) _ (omega arith) (l .inv .1 .1) found))

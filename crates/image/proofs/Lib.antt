@@ -1,0 +1,2 @@
+-- Laws of the image check.
+pub mod ImageLaws

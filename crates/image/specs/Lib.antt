@@ -1,0 +1,2 @@
+-- The image check.
+pub mod Image
