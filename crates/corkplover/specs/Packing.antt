@@ -7,6 +7,9 @@ use lib.Ieee.{Float, fin}
 use Rattle.meter.specs.declared.Levels.{Levels}
 use Rattle.refusal.specs.declared.Refusal.{Refusal}
 use Rattle.setting.specs.declared.Setting.{Setting}
+use Rattle.frame.specs.declared.Size.{Size}
+use Rattle.frame.specs.declared.FrameAnswer.{FrameAnswer}
+use Rattle.frame.specs.declared.FrameAnswer.the-variants as frame
 use Rattle.corkplover.specs.declared.one_pixel.PixelAnswer.{PixelAnswer}
 use Rattle.corkplover.specs.declared.one_pixel.PixelAnswer.the-variants as pixel
 use Rattle.corkplover.specs.declared.spot.Reading.{Reading}
@@ -75,3 +78,12 @@ abbrev pub setting : ℕ → ℕ → ℕ → ℕ → ℕ → ℕ → Bool → Bo
 setting p t m r y c rf yf =
     record
     { primaries = p; transfer = t; matrix = m; «rgb_depth» = r; «y_depth» = y; «c_depth» = c; «rgb_full» = rf; «ycc_full» = yf }
+
+-- sizes of four parameters
+abbrev pub sizes : ℕ → ℕ → ℕ → ℕ → Size
+sizes w h source output = record { width = w; height = h; «source_stride» = source; «output_stride» = output }
+
+-- a frame is 0 where it was converted
+abbrev pub packedFrame : FrameAnswer → ℕ
+packedFrame frame.Done = 0
+packedFrame (frame.Refused r) = packedRefusal r

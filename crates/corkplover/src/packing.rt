@@ -1,10 +1,12 @@
 // Answers as one number, for callers in other languages.
 ghost use mathlib.Core.Path.{_≡_};
 ghost use Rattle.setting.specs.Label.{labelNumber};
-ghost use Rattle.corkplover.specs.Packing.{packed, packedRefusal, packedPixel, packedReading, packedLevels, levelIn, levelsIn, setting};
+ghost use Rattle.corkplover.specs.Packing.{packed, packedRefusal, packedPixel, packedReading, packedLevels, levelIn, levelsIn, packedFrame, setting, sizes};
 use crate::one_pixel::PixelAnswer;
 use crate::spot::LevelsAnswer;
 use crate::spot::Reading;
+use frame::FrameAnswer;
+use frame::Size;
 use meter::Levels;
 use refusal::Refusal;
 use setting::Setting;
@@ -100,6 +102,27 @@ pub fn setting_of(
         c_depth: cdepth,
         rgb_full: rgbfull,
         ycc_full: yccfull,
+    }
+}
+
+pub fn pack_frame(answer: FrameAnswer) -> u64
+    ensures { λ r. ⌜ r ≡ packedFrame answer ⌝ }
+{
+    match answer {
+        FrameAnswer::Done => 0,
+        FrameAnswer::Refused(refusal) => pack_refusal(refusal),
+    }
+}
+
+// Sizes of four parameters.
+pub fn size_of(width: usize, height: usize, sourcestride: usize, outputstride: usize) -> Size
+    ensures { λ r. ⌜ r ≡ sizes width height sourcestride outputstride ⌝ }
+{
+    Size {
+        width,
+        height,
+        source_stride: sourcestride,
+        output_stride: outputstride,
     }
 }
 

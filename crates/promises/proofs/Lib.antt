@@ -6,3 +6,4 @@ pub mod Once
 pub mod Lossless
 pub mod Accepted
 pub mod Fields
+pub mod WrongBoxes

@@ -35,7 +35,7 @@ pixel a b c = record { p0 = a; p1 = b; p2 = c }
 abbrev pub is : ℕ → ℕ → ℕ → PixelAnswer
 is a b c = Converted (pixel a b c)
 
-abbrev answers : List PixelAnswer
+abbrev pub answers : List PixelAnswer
 answers =
     pixelAnswer Forward (with 8 8 8 9 true true) (pixel 255 0 0)
     ∷ pixelAnswer Forward (with 8 8 8 9 true true) (pixel 0 255 0)
@@ -51,7 +51,7 @@ answers =
     ∷ pixelAnswer Forward (with 9 8 8 8 true true) (pixel 128 128 128)
     ∷ []
 
-abbrev table : List PixelAnswer
+abbrev pub table : List PixelAnswer
 table =
     is 63 129 511
     ∷ is 127 511 256

@@ -1,0 +1,110 @@
+// Cases on a pixel, a sample or a label.
+ghost use Prim.Native.Nat.{_≤_};
+use crate::read;
+use crate::say;
+use corkplover::labels;
+use corkplover::one_pixel;
+use corkplover::one_pixel::PixelAnswer;
+use corkplover::one_pixel::SourceAnswer;
+use corkplover::spot;
+use corkplover::spot::LevelsAnswer;
+use corkplover::spot::Reading;
+use meter::SampleKind;
+use sample::Pixel;
+use setting::Setting;
+
+fn say_pixel(answer: PixelAnswer) {
+    match answer {
+        PixelAnswer::Converted(p) => say::pixel(p),
+        PixelAnswer::Refused(r) => say::refusal(r),
+    }
+}
+
+fn say_source(answer: SourceAnswer) {
+    match answer {
+        SourceAnswer::Yes => say::words(b"yes\n"),
+        SourceAnswer::NoSource => say::words(b"none\n"),
+        SourceAnswer::Refused(r) => say::refusal(r),
+    }
+}
+
+fn meter_one(kind: SampleKind, s: Setting, v: u16) {
+    match spot::meter_sample(kind, s, v) {
+        Reading::Level(x) => say::level(f32::to_bits(x)),
+        Reading::Refused(r) => say::refusal(r),
+    }
+}
+
+fn meter_three(s: Setting, p: Pixel) {
+    match spot::meter_pixel(s, p) {
+        LevelsAnswer::Levels(l) => {
+            let y = l.y;
+            let cb = l.cb;
+            let cr = l.cr;
+            say::levels(f32::to_bits(y), f32::to_bits(cb), f32::to_bits(cr));
+        }
+        LevelsAnswer::Refused(r) => say::refusal(r),
+    }
+}
+
+// A line with a setting and three samples.
+fn on_pixel(text: &[u8], at: usize, letter: u8) -> usize
+    ensures { λ r. ⌜ at ≤ r ⌝ }
+{
+    let g = read::setting_at(text, at);
+    let p = read::pixel_at(text, g.next);
+    let s = g.setting;
+    let q = p.pixel;
+    match letter {
+        b'f' => say_pixel(one_pixel::forward_pixel(s, q)),
+        b'r' => say_pixel(one_pixel::reverse_pixel(s, q)),
+        b's' => say_source(one_pixel::source_pixel(s, q)),
+        _ => meter_three(s, q),
+    }
+    p.next
+}
+
+// A line with a setting and one sample.
+fn on_sample(text: &[u8], at: usize, letter: u8) -> usize
+    ensures { λ r. ⌜ at ≤ r ⌝ }
+{
+    let g = read::setting_at(text, at);
+    let n = read::number(text, g.next);
+    let s = g.setting;
+    let v = read::sample_of(n.value);
+    match letter {
+        b'y' => meter_one(SampleKind::Y, s, v),
+        b'b' => meter_one(SampleKind::Cb, s, v),
+        _ => meter_one(SampleKind::Cr, s, v),
+    }
+    n.next
+}
+
+// A line with a code alone.
+fn on_code(text: &[u8], at: usize, letter: u8) -> usize
+    ensures { λ r. ⌜ at ≤ r ⌝ }
+{
+    let n = read::number(text, at);
+    let code = read::byte(n.value);
+    match letter {
+        b'p' => say::label(labels::primaries_label(code)),
+        b't' => say::label(labels::transfer_label(code)),
+        _ => say::label(labels::matrix_label(code)),
+    }
+    n.next
+}
+
+// A line after its letter: the position after what was read, or `at` where the letter is none.
+pub fn line(text: &[u8], at: usize, letter: u8) -> usize
+    ensures { λ r. ⌜ at ≤ r ⌝ }
+{
+    match letter {
+        b'f' | b'r' | b's' | b'm' => on_pixel(text, at, letter),
+        b'y' | b'b' | b'c' => on_sample(text, at, letter),
+        b'p' | b't' | b'x' => on_code(text, at, letter),
+        _ => {
+            say::words(b"bad line\n");
+            at
+        }
+    }
+}

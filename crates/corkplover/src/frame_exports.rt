@@ -1,0 +1,92 @@
+// The calls on whole frames for C and for every language that can call C. A slice is a pointer and then a length.
+ghost use mathlib.Core.Path.{_≡_};
+ghost use lib.ListN.{length};
+ghost use Rattle.pixel.specs.declared.Way.the-variants.{Forward, Reverse};
+ghost use Rattle.frame.specs.Frame.{sourceOf, outputOf, frameAnswer, outPlane};
+ghost use Rattle.corkplover.specs.Packing.{setting, sizes, packedFrame};
+use crate::frames;
+use crate::packing;
+use crate::packing::setting_of;
+use crate::packing::size_of;
+
+#[no_mangle]
+pub extern "C" fn corkplover_forward_frame(
+    primaries: u8,
+    transfer: u8,
+    matrix: u8,
+    rgbdepth: u8,
+    ydepth: u8,
+    cdepth: u8,
+    rgbfull: bool,
+    yccfull: bool,
+    width: usize,
+    height: usize,
+    sourcestride: usize,
+    outputstride: usize,
+    r: &[u16],
+    g: &[u16],
+    b: &[u16],
+    y: &mut [u16],
+    cb: &mut [u16],
+    cr: &mut [u16],
+) -> u64
+    ensures { λ x. ⌜ x ≡ packedFrame (frameAnswer Forward (setting primaries transfer matrix rgbdepth ydepth cdepth rgbfull yccfull) (sourceOf (sizes width height sourcestride outputstride) (now (r .entry)) (now (g .entry)) (now (b .entry))) (outputOf (sizes width height sourcestride outputstride) (length (now (y .entry))) (length (now (cb .entry))) (length (now (cr .entry))))) ⌝ }
+    ensures { λ _. ⌜ now (y .exit) ≡ outPlane 0 Forward (setting primaries transfer matrix rgbdepth ydepth cdepth rgbfull yccfull) (sourceOf (sizes width height sourcestride outputstride) (now (r .entry)) (now (g .entry)) (now (b .entry))) (outputOf (sizes width height sourcestride outputstride) (length (now (y .entry))) (length (now (cb .entry))) (length (now (cr .entry)))) ⌝ }
+    ensures { λ _. ⌜ now (cb .exit) ≡ outPlane 1 Forward (setting primaries transfer matrix rgbdepth ydepth cdepth rgbfull yccfull) (sourceOf (sizes width height sourcestride outputstride) (now (r .entry)) (now (g .entry)) (now (b .entry))) (outputOf (sizes width height sourcestride outputstride) (length (now (y .entry))) (length (now (cb .entry))) (length (now (cr .entry)))) ⌝ }
+    ensures { λ _. ⌜ now (cr .exit) ≡ outPlane 2 Forward (setting primaries transfer matrix rgbdepth ydepth cdepth rgbfull yccfull) (sourceOf (sizes width height sourcestride outputstride) (now (r .entry)) (now (g .entry)) (now (b .entry))) (outputOf (sizes width height sourcestride outputstride) (length (now (y .entry))) (length (now (cb .entry))) (length (now (cr .entry)))) ⌝ }
+{
+    let s = setting_of(
+        primaries,
+        transfer,
+        matrix,
+        rgbdepth,
+        ydepth,
+        cdepth,
+        rgbfull,
+        yccfull,
+    );
+    let size = size_of(width, height, sourcestride, outputstride);
+    let answer = frames::forward_frame(s, size, r, g, b, y, cb, cr);
+    packing::pack_frame(answer)
+}
+
+#[no_mangle]
+pub extern "C" fn corkplover_reverse_frame(
+    primaries: u8,
+    transfer: u8,
+    matrix: u8,
+    rgbdepth: u8,
+    ydepth: u8,
+    cdepth: u8,
+    rgbfull: bool,
+    yccfull: bool,
+    width: usize,
+    height: usize,
+    sourcestride: usize,
+    outputstride: usize,
+    y: &[u16],
+    cb: &[u16],
+    cr: &[u16],
+    r: &mut [u16],
+    g: &mut [u16],
+    b: &mut [u16],
+) -> u64
+    ensures { λ x. ⌜ x ≡ packedFrame (frameAnswer Reverse (setting primaries transfer matrix rgbdepth ydepth cdepth rgbfull yccfull) (sourceOf (sizes width height sourcestride outputstride) (now (y .entry)) (now (cb .entry)) (now (cr .entry))) (outputOf (sizes width height sourcestride outputstride) (length (now (r .entry))) (length (now (g .entry))) (length (now (b .entry))))) ⌝ }
+    ensures { λ _. ⌜ now (r .exit) ≡ outPlane 0 Reverse (setting primaries transfer matrix rgbdepth ydepth cdepth rgbfull yccfull) (sourceOf (sizes width height sourcestride outputstride) (now (y .entry)) (now (cb .entry)) (now (cr .entry))) (outputOf (sizes width height sourcestride outputstride) (length (now (r .entry))) (length (now (g .entry))) (length (now (b .entry)))) ⌝ }
+    ensures { λ _. ⌜ now (g .exit) ≡ outPlane 1 Reverse (setting primaries transfer matrix rgbdepth ydepth cdepth rgbfull yccfull) (sourceOf (sizes width height sourcestride outputstride) (now (y .entry)) (now (cb .entry)) (now (cr .entry))) (outputOf (sizes width height sourcestride outputstride) (length (now (r .entry))) (length (now (g .entry))) (length (now (b .entry)))) ⌝ }
+    ensures { λ _. ⌜ now (b .exit) ≡ outPlane 2 Reverse (setting primaries transfer matrix rgbdepth ydepth cdepth rgbfull yccfull) (sourceOf (sizes width height sourcestride outputstride) (now (y .entry)) (now (cb .entry)) (now (cr .entry))) (outputOf (sizes width height sourcestride outputstride) (length (now (r .entry))) (length (now (g .entry))) (length (now (b .entry)))) ⌝ }
+{
+    let s = setting_of(
+        primaries,
+        transfer,
+        matrix,
+        rgbdepth,
+        ydepth,
+        cdepth,
+        rgbfull,
+        yccfull,
+    );
+    let size = size_of(width, height, sourcestride, outputstride);
+    let answer = frames::reverse_frame(s, size, y, cb, cr, r, g, b);
+    packing::pack_frame(answer)
+}

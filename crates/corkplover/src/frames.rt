@@ -1,0 +1,47 @@
+// Whole frames, either way. Any sizes, strides and plane lengths may be handed in; every element of the output planes is set by every call.
+ghost use mathlib.Core.Path.{_≡_};
+ghost use lib.ListN.{length};
+ghost use Rattle.pixel.specs.declared.Way.the-variants.{Forward, Reverse};
+ghost use Rattle.frame.specs.Frame.{sourceOf, outputOf, frameAnswer, outPlane};
+use frame::FrameAnswer;
+use frame::Size;
+use pixel::Way;
+use setting::Setting;
+
+// R, G, B to Y, Cb, Cr. Refusals 1 to 7, 8, 9 on all six planes, then 10.
+pub fn forward_frame(
+    s: Setting,
+    size: Size,
+    r: &[u16],
+    g: &[u16],
+    b: &[u16],
+    y: &mut [u16],
+    cb: &mut [u16],
+    cr: &mut [u16],
+) -> FrameAnswer
+    ensures { λ x. ⌜ x ≡ frameAnswer Forward s (sourceOf size (now (r .entry)) (now (g .entry)) (now (b .entry))) (outputOf size (length (now (y .entry))) (length (now (cb .entry))) (length (now (cr .entry)))) ⌝ }
+    ensures { λ _. ⌜ now (y .exit) ≡ outPlane 0 Forward s (sourceOf size (now (r .entry)) (now (g .entry)) (now (b .entry))) (outputOf size (length (now (y .entry))) (length (now (cb .entry))) (length (now (cr .entry)))) ⌝ }
+    ensures { λ _. ⌜ now (cb .exit) ≡ outPlane 1 Forward s (sourceOf size (now (r .entry)) (now (g .entry)) (now (b .entry))) (outputOf size (length (now (y .entry))) (length (now (cb .entry))) (length (now (cr .entry)))) ⌝ }
+    ensures { λ _. ⌜ now (cr .exit) ≡ outPlane 2 Forward s (sourceOf size (now (r .entry)) (now (g .entry)) (now (b .entry))) (outputOf size (length (now (y .entry))) (length (now (cb .entry))) (length (now (cr .entry)))) ⌝ }
+{
+    frame::convert_frame(Way::Forward, s, size, r, g, b, y, cb, cr)
+}
+
+// Y, Cb, Cr to R, G, B. Refusals 1 to 7, 8, 9 on all six planes, then 10.
+pub fn reverse_frame(
+    s: Setting,
+    size: Size,
+    y: &[u16],
+    cb: &[u16],
+    cr: &[u16],
+    r: &mut [u16],
+    g: &mut [u16],
+    b: &mut [u16],
+) -> FrameAnswer
+    ensures { λ x. ⌜ x ≡ frameAnswer Reverse s (sourceOf size (now (y .entry)) (now (cb .entry)) (now (cr .entry))) (outputOf size (length (now (r .entry))) (length (now (g .entry))) (length (now (b .entry)))) ⌝ }
+    ensures { λ _. ⌜ now (r .exit) ≡ outPlane 0 Reverse s (sourceOf size (now (y .entry)) (now (cb .entry)) (now (cr .entry))) (outputOf size (length (now (r .entry))) (length (now (g .entry))) (length (now (b .entry)))) ⌝ }
+    ensures { λ _. ⌜ now (g .exit) ≡ outPlane 1 Reverse s (sourceOf size (now (y .entry)) (now (cb .entry)) (now (cr .entry))) (outputOf size (length (now (r .entry))) (length (now (g .entry))) (length (now (b .entry)))) ⌝ }
+    ensures { λ _. ⌜ now (b .exit) ≡ outPlane 2 Reverse s (sourceOf size (now (y .entry)) (now (cb .entry)) (now (cr .entry))) (outputOf size (length (now (r .entry))) (length (now (g .entry))) (length (now (b .entry)))) ⌝ }
+{
+    frame::convert_frame(Way::Reverse, s, size, y, cb, cr, r, g, b)
+}

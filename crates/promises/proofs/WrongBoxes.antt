@@ -1,0 +1,69 @@
+-- Wrong boxes that no contract allows, each at a pixel or a code where it gives itself away.
+use mathlib.Core.Path.{_≡_, refl, sym, ap, _∙_}
+use mathlib.Core.Bool.{Bool, true, false}
+use mathlib.Core.List.{List, [], _∷_}
+use Prim.Native.Nat.{ℕ}
+use native.Mathlib.Omega.{arith}
+use lib.ListN.{getD}
+use Rattle.sample.specs.declared.Pixel.{Pixel}
+use Rattle.refusal.specs.declared.Refusal.{Refusal}
+use Rattle.setting.specs.Label.{among, labelled, labelNumber, primariesLabel, transferLabel, matrixLabel}
+use Rattle.setting.specs.Matrix.{matrixOf}
+use Rattle.pixel.specs.declared.Way.the-variants.{Forward, Reverse}
+use Rattle.corkplover.specs.Answers.{pixelAnswer}
+use Rattle.corkplover.specs.declared.one_pixel.PixelAnswer.{PixelAnswer}
+use Rattle.corkplover.specs.declared.one_pixel.PixelAnswer.the-variants.{Converted, Refused}
+use Rattle.promises.proofs.Marked.{with, pixel, is, answers, table, marked}
+
+-- labels at codes on both sides of each end: no constant answer, and no end one off
+abbrev labels : (ℕ → ℕ) → List ℕ → List ℕ
+labels f [] = []
+labels f (n ∷ ns) = f n ∷ labels f ns
+
+pub primaries-edges : labels (λ n. labelNumber (primariesLabel n)) (0 ∷ 1 ∷ 2 ∷ 3 ∷ 4 ∷ 12 ∷ 13 ∷ 21 ∷ 22 ∷ 23 ∷ 255 ∷ []) ≡ 2 ∷ 0 ∷ 1 ∷ 2 ∷ 0 ∷ 0 ∷ 2 ∷ 2 ∷ 0 ∷ 2 ∷ 2 ∷ []
+unfolding labelled among
+primaries-edges = refl
+
+pub transfer-edges : labels (λ n. labelNumber (transferLabel n)) (0 ∷ 1 ∷ 2 ∷ 3 ∷ 4 ∷ 18 ∷ 19 ∷ 255 ∷ []) ≡ 2 ∷ 0 ∷ 1 ∷ 2 ∷ 0 ∷ 0 ∷ 2 ∷ 2 ∷ []
+unfolding labelled among
+transfer-edges = refl
+
+pub matrix-edges : labels (λ n. labelNumber (matrixLabel n)) (0 ∷ 1 ∷ 2 ∷ 3 ∷ 4 ∷ 14 ∷ 16 ∷ 17 ∷ 255 ∷ []) ≡ 0 ∷ 0 ∷ 1 ∷ 2 ∷ 0 ∷ 0 ∷ 0 ∷ 2 ∷ 2 ∷ []
+unfolding matrixOf
+matrix-edges = refl
+
+-- the first and the fourth of the marked rows: red forward and back, lossless at 8 bits
+red : pixelAnswer Forward (with 8 8 8 9 true true) (pixel 255 0 0) ≡ is 63 129 511
+red = ap (λ l. getD l 0 (is 0 0 0)) marked
+
+green : pixelAnswer Forward (with 8 8 8 9 true true) (pixel 0 255 0) ≡ is 127 511 256
+green = ap (λ l. getD l 1 (is 0 0 0)) marked
+
+back : pixelAnswer Reverse (with 8 8 8 9 true true) (pixel 63 129 511) ≡ is 255 0 0
+back = ap (λ l. getD l 3 (is 0 0 0)) marked
+
+-- two numbers that an equation of answers would make equal
+apart : {x : PixelAnswer} {p q : Pixel} → x ≡ Converted p → x ≡ Converted q → p .p0 ≡ q .p0
+apart {x} {p} {q} e f = let g : p ≡ q = cc in ap (λ r. r .p0) g
+
+served : {x : PixelAnswer} {p : Pixel} {r : Refusal} → x ≡ Converted p → x ≡ Refused r → ⊥
+served e f = let z : _≡_ {A = ℕ} 0 1 = cc in omega arith
+
+-- a box that refuses everything
+pub refuses-everything : (r : Refusal) → pixelAnswer Forward (with 8 8 8 9 true true) (pixel 255 0 0) ≡ Refused r → ⊥
+refuses-everything r e = served red e
+
+pub reverse-refuses-everything : (r : Refusal) → pixelAnswer Reverse (with 8 8 8 9 true true) (pixel 63 129 511) ≡ Refused r → ⊥
+reverse-refuses-everything r e = served back e
+
+-- planes copied straight through
+pub copies : pixelAnswer Forward (with 8 8 8 9 true true) (pixel 255 0 0) ≡ is 255 0 0 → ⊥
+copies e = let q = apart red e in omega arith
+
+pub reverse-copies : pixelAnswer Reverse (with 8 8 8 9 true true) (pixel 63 129 511) ≡ is 63 129 511 → ⊥
+reverse-copies e = let q = apart back e in omega arith
+
+-- one fixed colour
+pub fixed-colour : (p : Pixel) → pixelAnswer Forward (with 8 8 8 9 true true) (pixel 255 0 0) ≡ Converted p
+    → pixelAnswer Forward (with 8 8 8 9 true true) (pixel 0 255 0) ≡ Converted p → ⊥
+fixed-colour p e f = let q = apart red e in let r = apart green f in omega arith
