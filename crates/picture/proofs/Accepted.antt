@@ -37,7 +37,7 @@ within : (d v : ℕ) → v ≤ 2 ^ d - 1 → v < 2 ^ d
 within d v h = omega (arith, pow-pos d)
 
 -- every sample within its depth, by the way in which the picture is read
-inside-by : (way : Way) (d : Depths) (a : Picture) → beyondDepth way d a ≡ Nothing → EveryPixel (InsideSource way d) a
+pub inside-by : (way : Way) (d : Depths) (a : Picture) → beyondDepth way d a ≡ Nothing → EveryPixel (InsideSource way d) a
 inside-by Forward d a e j i h k =
     let fine = nothing-in-planes-means (planes a) (a .stride) (a .width) (a .height) _ .0 e in
     record {

@@ -26,7 +26,8 @@ use Rattle.pixel.specs.Pixel.{callOf}
 use Rattle.pixel.specs.Source.{hasSource}
 use Rattle.pixel.specs.declared.Way.{Way}
 use Rattle.pixel.specs.declared.Way.the-variants.{Forward, Reverse}
-use Rattle.corkplover.specs.Admit.{past, pastServed, badPixel, badOne, admitted, admittedOne}
+use Rattle.picture.specs.Verdict.{past}
+use Rattle.corkplover.specs.Admit.{badPixel, badOne, admitted, admittedOne}
 use Rattle.corkplover.specs.Answers.{Said, saidRefusal, convertedBy, pixelAnswer, pixelSaid, sourceBy, sourceAnswer, sourceSaid, readBy, reading, readingSaid, levelsBy, levelsAnswer, levelsSaid}
 use Rattle.corkplover.specs.declared.one_pixel.SourceAnswer.the-variants as source
 use Rattle.promises.specs.Tables.{isFound, thenBad, pixelTable, sampleTable}
