@@ -8,4 +8,6 @@ pub mod Accepted
 pub mod Fields
 pub mod FrameRefusals
 pub mod Frames
+pub mod FrameLossless
+pub mod Images
 pub mod WrongBoxes
