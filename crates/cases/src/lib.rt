@@ -17,6 +17,7 @@ fn line(text: &[u8], at: usize) -> usize
     match letter {
         b'F' => planes::frame_line(text, at + 1, true),
         b'R' => planes::frame_line(text, at + 1, false),
+        b'I' => planes::image_line(text, at + 1),
         _ => pixels::line(text, at + 1, letter),
     }
 }

@@ -1,10 +1,11 @@
-// Cases on whole frames.
+// Cases on whole frames and on images.
 ghost use Prim.Native.Nat.{_≤_};
 use crate::read;
 use crate::say;
 use corkplover::frames;
 use frame::FrameAnswer;
 use frame::Size;
+use image::ImageAnswer;
 use setting::Setting;
 
 struct ReadPlane {
@@ -171,4 +172,41 @@ pub fn frame_line(text: &[u8], at: usize, forward: bool) -> usize
         &a1[..l1],
         &a2[..l2],
     )
+}
+
+fn say_image(answer: ImageAnswer) {
+    match answer {
+        ImageAnswer::Yes => say::words(b"yes\n"),
+        ImageAnswer::NoSource(place) => say::no_source(place),
+        ImageAnswer::Refused(r) => say::refusal(r),
+    }
+}
+
+// A line after I.
+pub fn image_line(text: &[u8], at: usize) -> usize
+    ensures { λ r. ⌜ at ≤ r ⌝ }
+{
+    let g = read::setting_at(text, at);
+    let w = read::number(text, g.next);
+    let h = read::number(text, w.next);
+    let t = read::number(text, h.next);
+    let mut a0 = [0u16; 20000];
+    let mut a1 = [0u16; 20000];
+    let mut a2 = [0u16; 20000];
+    let p0 = plane(text, t.next, &mut a0);
+    let p1 = plane(text, p0.next, &mut a1);
+    let p2 = plane(text, p1.next, &mut a2);
+    let l0 = p0.length;
+    let l1 = p1.length;
+    let l2 = p2.length;
+    say_image(frames::check_image(
+        g.setting,
+        size(w.value),
+        size(h.value),
+        size(t.value),
+        &a0[..l0],
+        &a1[..l1],
+        &a2[..l2],
+    ));
+    p2.next
 }

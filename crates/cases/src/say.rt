@@ -1,5 +1,6 @@
 // Answers as lines of text.
 use libc::STDOUT_FILENO;
+use refusal::Place;
 use refusal::Refusal;
 use sample::Pixel;
 use setting::label::Label;
@@ -21,6 +22,14 @@ pub fn refusal(r: Refusal) {
         words(b" column ");
         io::print_decimal(STDOUT_FILENO, place.column as u64);
     }
+    words(b"\n");
+}
+
+pub fn no_source(place: Place) {
+    words(b"none row ");
+    io::print_decimal(STDOUT_FILENO, place.row as u64);
+    words(b" column ");
+    io::print_decimal(STDOUT_FILENO, place.column as u64);
     words(b"\n");
 }
 

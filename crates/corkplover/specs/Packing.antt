@@ -10,6 +10,8 @@ use Rattle.setting.specs.declared.Setting.{Setting}
 use Rattle.frame.specs.declared.Size.{Size}
 use Rattle.frame.specs.declared.FrameAnswer.{FrameAnswer}
 use Rattle.frame.specs.declared.FrameAnswer.the-variants as frame
+use Rattle.image.specs.declared.ImageAnswer.{ImageAnswer}
+use Rattle.image.specs.declared.ImageAnswer.the-variants as image
 use Rattle.corkplover.specs.declared.one_pixel.PixelAnswer.{PixelAnswer}
 use Rattle.corkplover.specs.declared.one_pixel.PixelAnswer.the-variants as pixel
 use Rattle.corkplover.specs.declared.spot.Reading.{Reading}
@@ -87,3 +89,9 @@ sizes w h source output = record { width = w; height = h; «source_stride» = so
 abbrev pub packedFrame : FrameAnswer → ℕ
 packedFrame frame.Done = 0
 packedFrame (frame.Refused r) = packedRefusal r
+
+-- the image check: 0 or 1 from bit 8 for yes or none, and a none's row and column from bits 16 and 32
+abbrev pub packedImage : ImageAnswer → ℕ
+packedImage image.Yes = 0
+packedImage (image.NoSource place) = packed 0 1 (place .row) (place .column) 0
+packedImage (image.Refused r) = packedRefusal r

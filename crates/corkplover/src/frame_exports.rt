@@ -3,7 +3,9 @@ ghost use mathlib.Core.Path.{_≡_};
 ghost use lib.ListN.{length};
 ghost use Rattle.pixel.specs.declared.Way.the-variants.{Forward, Reverse};
 ghost use Rattle.frame.specs.Frame.{sourceOf, outputOf, frameAnswer, outPlane};
-ghost use Rattle.corkplover.specs.Packing.{setting, sizes, packedFrame};
+ghost use Rattle.image.specs.Image.{imageAnswer};
+ghost use Rattle.picture.specs.Picture.{picture};
+ghost use Rattle.corkplover.specs.Packing.{setting, sizes, packedFrame, packedImage};
 use crate::frames;
 use crate::packing;
 use crate::packing::setting_of;
@@ -89,4 +91,36 @@ pub extern "C" fn corkplover_reverse_frame(
     let size = size_of(width, height, sourcestride, outputstride);
     let answer = frames::reverse_frame(s, size, y, cb, cr, r, g, b);
     packing::pack_frame(answer)
+}
+
+#[no_mangle]
+pub extern "C" fn corkplover_image_check(
+    primaries: u8,
+    transfer: u8,
+    matrix: u8,
+    rgbdepth: u8,
+    ydepth: u8,
+    cdepth: u8,
+    rgbfull: bool,
+    yccfull: bool,
+    width: usize,
+    height: usize,
+    stride: usize,
+    y: &[u16],
+    cb: &[u16],
+    cr: &[u16],
+) -> u64
+    ensures { λ x. ⌜ x ≡ packedImage (imageAnswer (setting primaries transfer matrix rgbdepth ydepth cdepth rgbfull yccfull) (picture width height stride (now (y .entry)) (now (cb .entry)) (now (cr .entry)))) ⌝ }
+{
+    let s = setting_of(
+        primaries,
+        transfer,
+        matrix,
+        rgbdepth,
+        ydepth,
+        cdepth,
+        rgbfull,
+        yccfull,
+    );
+    packing::pack_image(frames::check_image(s, width, height, stride, y, cb, cr))
 }

@@ -1,10 +1,13 @@
-// Whole frames, either way. Any sizes, strides and plane lengths may be handed in; every element of the output planes is set by every call.
+// Whole frames, either way, and the image check. Any sizes, strides and plane lengths may be handed in; every element of the output planes is set by every call.
 ghost use mathlib.Core.Path.{_≡_};
 ghost use lib.ListN.{length};
 ghost use Rattle.pixel.specs.declared.Way.the-variants.{Forward, Reverse};
 ghost use Rattle.frame.specs.Frame.{sourceOf, outputOf, frameAnswer, outPlane};
+ghost use Rattle.image.specs.Image.{imageAnswer};
+ghost use Rattle.picture.specs.Picture.{picture};
 use frame::FrameAnswer;
 use frame::Size;
+use image::ImageAnswer;
 use pixel::Way;
 use setting::Setting;
 
@@ -44,4 +47,20 @@ pub fn reverse_frame(
     ensures { λ _. ⌜ now (b .exit) ≡ outPlane 2 Reverse s (sourceOf size (now (y .entry)) (now (cb .entry)) (now (cr .entry))) (outputOf size (length (now (r .entry))) (length (now (g .entry))) (length (now (b .entry)))) ⌝ }
 {
     frame::convert_frame(Way::Reverse, s, size, y, cb, cr, r, g, b)
+}
+
+// Whether a picture of Y, Cb, Cr comes from some RGB picture within depth, or else the first pixel that does not. Refusals 1 to 7, 11,
+// then 8, 9 and 10 on that one side.
+pub fn check_image(
+    s: Setting,
+    width: usize,
+    height: usize,
+    stride: usize,
+    y: &[u16],
+    cb: &[u16],
+    cr: &[u16],
+) -> ImageAnswer
+    ensures { λ x. ⌜ x ≡ imageAnswer s (picture width height stride (now (y .entry)) (now (cb .entry)) (now (cr .entry))) ⌝ }
+{
+    image::check_image(s, width, height, stride, y, cb, cr)
 }

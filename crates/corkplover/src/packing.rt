@@ -1,12 +1,13 @@
 // Answers as one number, for callers in other languages.
 ghost use mathlib.Core.Path.{_≡_};
 ghost use Rattle.setting.specs.Label.{labelNumber};
-ghost use Rattle.corkplover.specs.Packing.{packed, packedRefusal, packedPixel, packedReading, packedLevels, levelIn, levelsIn, packedFrame, setting, sizes};
+ghost use Rattle.corkplover.specs.Packing.{packed, packedRefusal, packedPixel, packedReading, packedLevels, levelIn, levelsIn, packedFrame, packedImage, setting, sizes};
 use crate::one_pixel::PixelAnswer;
 use crate::spot::LevelsAnswer;
 use crate::spot::Reading;
 use frame::FrameAnswer;
 use frame::Size;
+use image::ImageAnswer;
 use meter::Levels;
 use refusal::Refusal;
 use setting::Setting;
@@ -111,6 +112,17 @@ pub fn pack_frame(answer: FrameAnswer) -> u64
     match answer {
         FrameAnswer::Done => 0,
         FrameAnswer::Refused(refusal) => pack_refusal(refusal),
+    }
+}
+
+// Bits 8 to 15 say yes or none; a none has its row and column where a 10 has them.
+pub fn pack_image(answer: ImageAnswer) -> u64
+    ensures { λ r. ⌜ r ≡ packedImage answer ⌝ }
+{
+    match answer {
+        ImageAnswer::Yes => 0,
+        ImageAnswer::NoSource(place) => pack(0, 1, place.row, place.column, 0),
+        ImageAnswer::Refused(refusal) => pack_refusal(refusal),
     }
 }
 
