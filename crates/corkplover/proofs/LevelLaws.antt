@@ -19,11 +19,13 @@ use Rattle.meter.specs.declared.SampleKind.the-variants as kind
 use Rattle.meter.proofs.Scales.{level-is-number}
 use Rattle.pixel.specs.Ready.{Ready}
 use Rattle.pixel.specs.declared.Way.the-variants.{Reverse}
-use Rattle.corkplover.specs.Admit.{badOne, badPixel, past, admitted, admittedOne}
+use Rattle.picture.specs.Verdict.{past}
+use Rattle.picture.proofs.VerdictLaws.{past-both}
+use Rattle.corkplover.specs.Admit.{badOne, badPixel, admitted, admittedOne}
 use Rattle.corkplover.specs.Answers.{readBy, reading, levelsBy, levelsAnswer}
 use Rattle.corkplover.specs.declared.spot.Reading.the-variants as meter
 use Rattle.corkplover.specs.declared.spot.LevelsAnswer.the-variants as levels
-use Rattle.corkplover.proofs.AdmitLaws.{past-both, verdict-ready, let-in}
+use Rattle.corkplover.proofs.AdmitLaws.{verdict-ready, let-in}
 
 abbrev pub IsNumber : Float → Type 0
 IsNumber x = T (not (isNan x))

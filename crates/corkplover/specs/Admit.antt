@@ -1,30 +1,30 @@
 -- Who is let in: rows 1 to 7 and 11 by the setting, and then 10 by the samples that the call was handed.
-use mathlib.Core.List.{List, [], _∷_}
+use mathlib.Core.List.{[], _∷_}
 use Prim.Native.Nat.{ℕ}
 use Rattle.sample.specs.Depth.{M}
 use Rattle.sample.specs.declared.Depths.{Depths}
 use Rattle.sample.specs.declared.Pixel.{Pixel}
-use Rattle.refusal.specs.Table.{badAt}
-use Rattle.plane.specs.First.{firstBad, badSample}
+use Rattle.plane.specs.First.{firstBad}
 use Rattle.plane.specs.declared.search.Found.{Found}
-use Rattle.plane.specs.declared.search.Found.the-variants as found
 use Rattle.setting.specs.Refusals.{depths, verdictOf}
 use Rattle.setting.specs.declared.Call.{Call}
 use Rattle.setting.specs.declared.Call.the-variants as call
 use Rattle.setting.specs.declared.Setting.{Setting}
-use Rattle.setting.specs.declared.verdict.Served.{Served}
 use Rattle.setting.specs.declared.verdict.Verdict.{Verdict}
-use Rattle.setting.specs.declared.verdict.Verdict.the-variants as verdict
 use Rattle.meter.specs.Level.{planeOf}
 use Rattle.meter.specs.declared.SampleKind.{SampleKind}
 use Rattle.meter.specs.declared.SampleKind.the-variants as kind
-use Rattle.pixel.specs.Pixel.{tops}
 use Rattle.pixel.specs.declared.Way.{Way}
+use Rattle.picture.specs.Picture.{Picture, picture}
+use Rattle.picture.specs.Verdict.{beyondDepth, past}
 
--- row 10 on a pixel: it is a picture of one row and one column, and the lowest bad plane is named
+-- a pixel is a picture of one row and one column
+abbrev pub pixelPicture : Pixel → Picture
+pixelPicture p = picture 1 1 1 (p .p0 ∷ []) (p .p1 ∷ []) (p .p2 ∷ [])
+
+-- row 10 on a pixel: the lowest bad plane is named
 abbrev pub badPixel : Way → Depths → Pixel → Found
-badPixel w d p =
-    badSample ((p .p0 ∷ []) ∷ (p .p1 ∷ []) ∷ (p .p2 ∷ []) ∷ []) 1 1 1 (tops w d .p0 ∷ tops w d .p1 ∷ tops w d .p2 ∷ [])
+badPixel w d p = beyondDepth w d (pixelPicture p)
 
 -- row 10 on one sample of a kind, with that plane's number
 abbrev pub topOf : SampleKind → Depths → ℕ
@@ -34,15 +34,6 @@ topOf kind.Cr d = M (d .chroma .0)
 
 abbrev pub badOne : SampleKind → Depths → ℕ → Found
 badOne k d v = firstBad (v ∷ []) (planeOf k) 1 1 1 (topOf k d)
-
--- a place that was found refuses what was served
-abbrev pub pastServed : Served → Found → Verdict
-pastServed x (found.At place) = verdict.Refused (badAt place)
-pastServed x found.Nothing = verdict.Served x
-
-abbrev pub past : Verdict → Found → Verdict
-past (verdict.Refused r) f = verdict.Refused r
-past (verdict.Served x) f = pastServed x f
 
 -- a call that is handed a whole pixel
 unfoldable pub admitted : Call → Way → Setting → Pixel → Verdict

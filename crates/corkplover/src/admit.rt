@@ -2,11 +2,10 @@
 ghost use mathlib.Core.Path.{_≡_};
 ghost use Rattle.pixel.specs.Ready.{ThreeDepths};
 ghost use Rattle.sample.specs.Depth.{Depth};
-ghost use Rattle.corkplover.specs.Admit.{badPixel, past, admitted, badOne, admittedOne, topOf};
+ghost use Rattle.corkplover.specs.Admit.{badPixel, admitted, badOne, admittedOne, topOf};
 use meter::SampleKind;
 use pixel::Way;
 use plane::search::Found;
-use refusal::Refusal;
 use sample::Depths;
 use sample::Pixel;
 use setting::Call;
@@ -25,19 +24,6 @@ fn bad_pixel(way: Way, d: Depths, p: Pixel) -> Found
     plane::search::first_bad_of_three(&a, &b, &c, 1, 1, 1, t.p0, t.p1, t.p2)
 }
 
-// A place that was found refuses what was served.
-fn past(v: Verdict, found: Found) -> Verdict
-    ensures { λ r. ⌜ r ≡ past v found ⌝ }
-{
-    match v {
-        Verdict::Refused(_) => v,
-        Verdict::Served(_) => match found {
-            Found::At(place) => Verdict::Refused(Refusal::bad_at(place)),
-            Found::Nothing => v,
-        },
-    }
-}
-
 // The setting in checked kinds, or the refusal of a call on a whole pixel.
 pub fn admit(call: Call, way: Way, s: Setting, p: Pixel) -> Verdict
     ensures { λ r. ⌜ r ≡ admitted call way s p ⌝ }
@@ -47,7 +33,7 @@ pub fn admit(call: Call, way: Way, s: Setting, p: Pixel) -> Verdict
         Verdict::Refused(_) => v,
         Verdict::Served(served) => {
             let depths = served.depths;
-            past(v, bad_pixel(way, depths, p))
+            picture::past(v, bad_pixel(way, depths, p))
         }
     }
 }
@@ -83,7 +69,7 @@ pub fn admit_one(kind: SampleKind, s: Setting, v: u16) -> Verdict
         Verdict::Refused(_) => verdict,
         Verdict::Served(served) => {
             let depths = served.depths;
-            past(verdict, bad_one(kind, depths, v))
+            picture::past(verdict, bad_one(kind, depths, v))
         }
     }
 }

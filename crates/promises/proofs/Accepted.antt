@@ -19,7 +19,7 @@ use Rattle.setting.specs.declared.verdict.Verdict.the-variants as verdict
 use Rattle.pixel.specs.Pixel.{convert, callOf, tops, InsideSource}
 use Rattle.pixel.specs.declared.Way.{Way}
 use Rattle.pixel.specs.declared.Way.the-variants.{Forward, Reverse}
-use Rattle.corkplover.specs.Admit.{badPixel, past, admitted}
+use Rattle.corkplover.specs.Admit.{badPixel, admitted}
 use Rattle.corkplover.specs.Answers.{convertedBy, pixelAnswer}
 use Rattle.corkplover.specs.declared.one_pixel.PixelAnswer.the-variants.{Converted}
 

@@ -6,4 +6,8 @@ pub mod Once
 pub mod Lossless
 pub mod Accepted
 pub mod Fields
+pub mod FrameRefusals
+pub mod Frames
+pub mod FrameLossless
+pub mod Images
 pub mod WrongBoxes

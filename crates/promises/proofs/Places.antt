@@ -22,7 +22,8 @@ use Rattle.meter.specs.Level.{planeOf}
 use Rattle.meter.specs.declared.SampleKind.{SampleKind}
 use Rattle.pixel.specs.Pixel.{tops}
 use Rattle.pixel.specs.declared.Way.{Way}
-use Rattle.corkplover.specs.Admit.{topOf, badPixel, badOne, past, admitted, admittedOne}
+use Rattle.picture.specs.Verdict.{past}
+use Rattle.corkplover.specs.Admit.{topOf, badPixel, badOne}
 
 -- row 10 on a pixel, as a fact: the lowest plane whose sample is above its largest
 abbrev pub BadPixel : Way → Setting → Pixel → Place → Type 0

@@ -26,13 +26,14 @@ use Rattle.pixel.specs.Pixel.{callOf}
 use Rattle.pixel.specs.Source.{hasSource}
 use Rattle.pixel.specs.declared.Way.{Way}
 use Rattle.pixel.specs.declared.Way.the-variants.{Forward, Reverse}
-use Rattle.corkplover.specs.Admit.{past, pastServed, badPixel, badOne, admitted, admittedOne}
+use Rattle.picture.specs.Verdict.{past}
+use Rattle.corkplover.specs.Admit.{badPixel, badOne, admitted, admittedOne}
 use Rattle.corkplover.specs.Answers.{Said, saidRefusal, convertedBy, pixelAnswer, pixelSaid, sourceBy, sourceAnswer, sourceSaid, readBy, reading, readingSaid, levelsBy, levelsAnswer, levelsSaid}
 use Rattle.corkplover.specs.declared.one_pixel.SourceAnswer.the-variants as source
 use Rattle.promises.specs.Tables.{isFound, thenBad, pixelTable, sampleTable}
 
 -- the number of a verdict: 0 for a setting that is served
-abbrev number : Verdict → ℕ
+abbrev pub number : Verdict → ℕ
 number (verdict.Served x) = 0
 number (verdict.Refused r) = r .number
 
@@ -40,7 +41,7 @@ numbered : (c : Call) (s : Setting) → Numbered (table c s)
 numbered c s = (refl, (refl, (refl, (refl, (refl, (refl, (refl, (refl, tt))))))))
 
 -- a verdict's number, past row 10
-past-number : (n : ℕ) (x : Served) (f : Found) → number (past (judged n x) f) ≡ orElse n (first (row 10 (isFound f) ∷ []))
+pub past-number : (n : ℕ) (x : Served) (f : Found) → number (past (judged n x) f) ≡ orElse n (first (row 10 (isFound f) ∷ []))
 unfolding judged first
 past-number zero x (found.At place) = refl
 past-number zero x found.Nothing = refl
@@ -58,19 +59,22 @@ pub record Exactly (said : ℕ) (rows : List Row) : Type 0 where
   pub accepted : said ≡ 0 → NoRow rows
   pub free : NoRow rows → said ≡ 0
 
-whole-numbered : (rows : List Row) (f : Found) → Numbered rows → Numbered (thenBad rows f)
+pub exactly-first : (rows : List Row) (said : ℕ) → Numbered rows → said ≡ first rows → Exactly said rows
+exactly-first rows said h q =
+    record {
+      given = λ n p k. is-first rows n p (sym q ∙ k);
+      only = λ k. q ∙ first-is k;
+      accepted = λ k. no-row rows h (sym q ∙ k);
+      free = λ k. q ∙ row-none k;
+    }
+
+pub whole-numbered : (rows : List Row) (f : Found) → Numbered rows → Numbered (thenBad rows f)
 whole-numbered [] f h = (refl, tt)
 whole-numbered (r ∷ rs) f h = (h .0, whole-numbered rs f (h .1))
 
 exactly : (c : Call) (s : Setting) (f : Found) (said : ℕ) → said ≡ number (past (verdictOf c s) f) → Exactly said (thenBad (table c s) f)
 exactly c s f said e =
-    let q : said ≡ first (thenBad (table c s) f) = e ∙ door-number c s f in
-    record {
-      given = λ n p k. is-first (thenBad (table c s) f) n p (sym q ∙ k);
-      only = λ k. q ∙ first-is k;
-      accepted = λ k. no-row (thenBad (table c s) f) (whole-numbered (table c s) f (numbered c s)) (sym q ∙ k);
-      free = λ k. q ∙ row-none k;
-    }
+    exactly-first (thenBad (table c s) f) said (whole-numbered (table c s) f (numbered c s)) (e ∙ door-number c s f)
 
 -- Each answer's number is that of the door.
 converted-number : (w : Way) (p : Pixel) (v : Verdict) → pixelSaid (convertedBy w p v) .number ≡ number v

@@ -6,8 +6,10 @@ use Rattle.setting.specs.Refusals.{depths, served, verdictOf}
 use Rattle.setting.specs.declared.Call.the-variants as call
 use Rattle.setting.specs.declared.verdict.Verdict.{Verdict}
 use Rattle.setting.specs.declared.verdict.Verdict.the-variants as verdict
-use Rattle.corkplover.specs.Admit.{badPixel, past, admitted}
-use Rattle.corkplover.proofs.AdmitLaws.{refused-stays, verdict-ready, verdict-is, three}
+use Rattle.picture.specs.Verdict.{past}
+use Rattle.picture.proofs.VerdictLaws.{three}
+use Rattle.corkplover.specs.Admit.{badPixel, admitted}
+use Rattle.corkplover.proofs.AdmitLaws.{refused-stays, verdict-ready, verdict-is}
 use borrow.Author.Needs.{needs}
 use Rattle.corkplover.proofs.admit.admit.Statement.{statement}
 use Rattle.corkplover.proofs.admit.admit.Tie as tie

@@ -1,0 +1,143 @@
+-- Demand 3 on whole pictures, over settings that the image check does not refuse: frames are one-to-one, a frame comes back, and the image
+-- check says yes exactly if some RGB picture within depth converts to the given one. The pixels' own theorems, row by row.
+use mathlib.Core.Path.{_≡_, refl, sym, ap, _∙_, subst}
+use mathlib.Core.Bool.{Bool, true, false, not}
+use mathlib.Core.List.{List, [], _∷_}
+use mathlib.Core.Logic.{_↔_}
+use Prim.Native.Nat.{ℕ, _+_, _*_, _≤_, _<_}
+use native.Mathlib.Omega.{arith}
+use borrow.Author.Tests.{not-true, not-false}
+use Rattle.sample.specs.Depth.{InsideRGB, InsideYCC}
+use Rattle.sample.specs.declared.Pixel.{Pixel}
+use Rattle.refusal.specs.Table.{row, first}
+use Rattle.refusal.specs.declared.Place.{Place}
+use Rattle.refusal.proofs.TableLaws.{neither}
+use Rattle.plane.specs.First.{IsFirstPlace}
+use Rattle.plane.specs.Plane.{planeOf, sampleAt}
+use Rattle.plane.specs.Sizes.{needed, sizeRefusal, ServedSide}
+use Rattle.plane.specs.declared.search.Found.{Found}
+use Rattle.plane.specs.declared.search.Found.the-variants as found
+use Rattle.plane.specs.declared.size.Side.{Side}
+use Rattle.plane.proofs.PlaneTheorems.{plane-inside, plane-same}
+use Rattle.plane.proofs.SizeTheorems.{refused-0}
+use Rattle.plane.proofs.SearchTheorems.{no-place-means, first-place-means}
+use Rattle.setting.specs.Refusals.{family, depths, served, codeRows, depthRows, refusalOf}
+use Rattle.setting.specs.Matrix.{matrixOf}
+use Rattle.setting.specs.declared.Call.the-variants as call
+use Rattle.setting.specs.declared.Setting.{Setting}
+use Rattle.setting.proofs.RefusalLaws.{in-turn}
+use Rattle.pixel.specs.Pixel.{callOf, convert}
+use Rattle.pixel.specs.Source.{HasSource, hasSource}
+use Rattle.pixel.specs.declared.Way.{Way}
+use Rattle.pixel.specs.declared.Way.the-variants.{Forward, Reverse}
+use Rattle.pixel.proofs.ReadyLaws.{ready, is-lossless}
+use Rattle.pixel.proofs.PixelTheorems.{forward-inside, reverse-inside, tested, has-source}
+use Rattle.picture.specs.Picture.{Picture, picture, sideOfPicture, pixelOf, EveryPixel}
+use Rattle.picture.proofs.Accepted.{Accepted, of-accepted, sides-served, pixels-inside, none-beyond}
+use Rattle.row.specs.Row.{sampleOf}
+use Rattle.frame.specs.Frame.{frameAnswer, lengthOf, outPlane}
+use Rattle.frame.specs.declared.FrameAnswer.the-variants.{Done}
+use Rattle.image.specs.Image.{sourceless, firstSourceless, answerFound, answerBy, imageAnswer}
+use Rattle.image.specs.declared.ImageAnswer.the-variants.{Yes, NoSource}
+use Rattle.promises.proofs.Lossless.{pixel-trip, pixel-one-to-one}
+use Rattle.promises.proofs.Frames.{frame-done, frame-length, done-plane, done-inside, index-inside}
+
+-- a pixel is its three samples
+pixel-is : (p q : Pixel) → ((k : ℕ) → k < 3 → sampleOf k p ≡ sampleOf k q) → p ≡ q
+pixel-is p q h = λ i. record { p0 = h 0 (omega arith) i; p1 = h 1 (omega arith) i; p2 = h 2 (omega arith) i }
+
+-- row 11 asks nothing of a conversion, so what the image check takes is converted too
+without-11 : (x y z : Bool) → first (row 6 x ∷ row 7 y ∷ row 11 z ∷ []) ≡ 0 → first (row 6 x ∷ row 7 y ∷ row 11 false ∷ []) ≡ 0
+unfolding first
+without-11 true y z e = absurd (omega arith)
+without-11 false true z e = absurd (omega arith)
+without-11 false false z e = refl
+
+groups : (s : Setting) → refusalOf call.ImageCheck s ≡ 0
+    → (first (codeRows (matrixOf (s .matrix)) (s .primaries) (s .transfer)) ≡ 0) × (first (depthRows call.ImageCheck (family s) s) ≡ 0)
+groups s e =
+    neither (first (codeRows (matrixOf (s .matrix)) (s .primaries) (s .transfer))) (first (depthRows call.ImageCheck (family s) s))
+    (sym (in-turn call.ImageCheck s) ∙ e)
+
+pub converts-too : (w : Way) (s : Setting) → refusalOf call.ImageCheck s ≡ 0 → refusalOf (callOf w) s ≡ 0
+converts-too Forward s e = in-turn call.Forward s ∙ rw (groups s e .0, without-11 _ _ _ (groups s e .1))
+converts-too Reverse s e = in-turn call.Reverse s ∙ rw (groups s e .0, without-11 _ _ _ (groups s e .1))
+
+module _ (s : Setting) (e : refusalOf call.ImageCheck s ≡ 0) where
+  -- ---- frames are one-to-one: pictures with equal conversions are equal
+
+  pub frames-one-to-one : (a c : Picture) (b d : Side) → frameAnswer Forward s a b ≡ Done → frameAnswer Forward s c d ≡ Done
+      → a .width ≡ c .width → a .height ≡ c .height
+      → ((k j i : ℕ) → k < 3 → j < a .height → i < a .width → sampleAt (outPlane k Forward s a b) (b .stride) j i ≡ sampleAt (outPlane k Forward s c d) (d .stride) j i)
+      → (j i : ℕ) → j < a .height → i < a .width → pixelOf a j i ≡ pixelOf c j i
+  frames-one-to-one a c b d f g wide high same j i x y =
+      let x' : j < c .height = omega (arith, x, high) in
+      let y' : i < c .width = omega (arith, y, wide) in
+      pixel-one-to-one s e (pixelOf a j i) (pixelOf c j i)
+      (pixels-inside _ _ _ _ _ (frame-done Forward s a b .0 f) j i x y)
+      (pixels-inside _ _ _ _ _ (frame-done Forward s c d .0 g) j i x' y')
+      (pixel-is _ _ (λ k h. sym (done-inside Forward s a b f k j i h x y) ∙ same k j i h x y ∙ done-inside Forward s c d g k j i h x' y'))
+
+  -- ---- a frame comes back: the planes that a forward call left are handed to the reverse call
+
+  module _ (a : Picture) (b d : Side) (f : frameAnswer Forward s a b ≡ Done) (h : ServedSide (a .width) (a .height) d) where
+    -- the picture in the forward call's output planes
+    abbrev pub sent : Picture
+    sent = picture (a .width) (a .height) (b .stride) (outPlane 0 Forward s a b) (outPlane 1 Forward s a b) (outPlane 2 Forward s a b)
+
+    taken : Accepted call.Forward Forward s a (b ∷ [])
+    taken = frame-done Forward s a b .0 f
+
+    sent-pixel : (j i : ℕ) → j < a .height → i < a .width → pixelOf sent j i ≡ convert Forward (served s) (pixelOf a j i)
+    sent-pixel j i x y = λ t.
+        record {
+          p0 = done-inside Forward s a b f 0 j i (omega arith) x y t;
+          p1 = done-inside Forward s a b f 1 j i (omega arith) x y t;
+          p2 = done-inside Forward s a b f 2 j i (omega arith) x y t;
+        }
+
+    sent-inside : EveryPixel (InsideYCC (depths s)) sent
+    sent-inside j i x y =
+        subst (InsideYCC (depths s)) (sym (sent-pixel j i x y))
+        (forward-inside (served s) (pixelOf a j i) (ready call.ImageCheck s e) (pixels-inside _ _ _ _ _ taken j i x y))
+
+    sent-sizes : sizeRefusal (a .width) (a .height) (sideOfPicture sent ∷ d ∷ []) ≡ 0
+    sent-sizes =
+        let own = sides-served call.Forward Forward s a (b ∷ []) taken .1 .0 in
+        let l0 = frame-length Forward s a b 0 in
+        let l1 = frame-length Forward s a b 1 in
+        let l2 = frame-length Forward s a b 2 in
+        refused-0 (a .width) (a .height) (sideOfPicture sent ∷ d ∷ []) .1 (
+          record {
+            width-within = h .sized .width-within;
+            height-within = h .sized .height-within;
+            strides-within = (own .sized .stride-within, (h .sized .stride-within, tt));
+          },
+          (
+            record {
+              long0 = omega (arith, l0, own .long .long0);
+              long1 = omega (arith, l1, own .long .long1);
+              long2 = omega (arith, l2, own .long .long2);
+            },
+            (h .long, tt),
+          ),
+        )
+
+    -- the reverse call takes them
+    pub trip-done : frameAnswer Reverse s sent d ≡ Done
+    trip-done =
+        frame-done Reverse s sent d .1
+        (record { setting = converts-too Reverse s e; sizes = sent-sizes; samples = none-beyond Reverse (depths s) sent sent-inside })
+
+    back : (j i : ℕ) → j < a .height → i < a .width → convert Reverse (served s) (pixelOf sent j i) ≡ pixelOf a j i
+    back j i x y = ap (convert Reverse (served s)) (sent-pixel j i x y) ∙ pixel-trip s e (pixelOf a j i) (pixels-inside _ _ _ _ _ taken j i x y)
+
+    -- and gives the picture again, sample for sample
+    pub frame-trip : (k j i : ℕ) → k < 3 → j < a .height → i < a .width → sampleAt (outPlane k Reverse s sent d) (d .stride) j i ≡ sampleOf k (pixelOf a j i)
+    frame-trip k j i l x y = done-inside Reverse s sent d trip-done k j i l x y ∙ ap (sampleOf k) (back j i x y)
+
+    -- with zeros everywhere else
+    pub frame-trip-plane : (k : ℕ) → outPlane k Reverse s sent d ≡ planeOf (lengthOf k d) (d .stride) (a .width) (a .height) (λ j i. sampleOf k (pixelOf a j i))
+    frame-trip-plane k =
+        done-plane Reverse s sent d trip-done k
+        ∙ plane-same (lengthOf k d) (d .stride) (a .width) (a .height) _ _ (λ j i x y. ap (sampleOf k) (back j i x y))

@@ -1,0 +1,168 @@
+-- Demands 1 and 2 on whole pictures: what a frame call leaves in each element of its output planes, and that this and every answer depend
+-- on the setting, the sizes, the lengths of the planes and the samples inside the picture alone.
+use mathlib.Core.Path.{_≡_, refl, sym, ap, _∙_}
+use mathlib.Core.List.{List, [], _∷_}
+use mathlib.Core.Logic.{_↔_}
+use Prim.Native.Nat.{ℕ, zero, suc, _+_, _*_, _-_, _≤_, _<_}
+use native.Mathlib.Nat.{mul-le-mul-right}
+use native.Mathlib.Omega.{arith}
+use lib.ListN.{length, getD}
+use Rattle.refusal.specs.declared.Refusal.{Refusal}
+use Rattle.plane.specs.Plane.{zeros, sampleAt, SamePicture}
+use Rattle.plane.specs.Sizes.{needed, ServedSide}
+use Rattle.plane.specs.declared.size.Side.{Side}
+use Rattle.plane.proofs.Tables.{length-tab, tab-at}
+use Rattle.plane.proofs.PlaneTheorems.{plane-length, plane-inside, plane-outside, plane-same, pixel-same}
+use Rattle.plane.proofs.SearchTheorems.{bad-sample-same, first-place-same}
+use Rattle.setting.specs.Refusals.{served}
+use Rattle.setting.specs.declared.Call.{Call}
+use Rattle.setting.specs.declared.Call.the-variants as call
+use Rattle.setting.specs.declared.Setting.{Setting}
+use Rattle.setting.specs.declared.verdict.Served.{Served}
+use Rattle.setting.specs.declared.verdict.Verdict.{Verdict}
+use Rattle.setting.specs.declared.verdict.Verdict.the-variants as verdict
+use Rattle.pixel.specs.Pixel.{callOf, convert}
+use Rattle.pixel.specs.Source.{hasSource}
+use Rattle.pixel.specs.declared.Way.{Way}
+use Rattle.pixel.specs.declared.Way.the-variants.{Reverse}
+use Rattle.picture.specs.Picture.{Picture, picture, pixelOf}
+use Rattle.picture.specs.Verdict.{pictureVerdict}
+use Rattle.picture.proofs.Accepted.{Accepted, accepted-of, of-accepted, sides-served}
+use Rattle.row.specs.Row.{sampleOf}
+use Rattle.frame.specs.Frame.{frameVerdict, answerBy, frameAnswer, convertedPlane, planeBy, lengthOf, outPlane}
+use Rattle.frame.specs.declared.FrameAnswer.{FrameAnswer}
+use Rattle.frame.specs.declared.FrameAnswer.the-variants.{Done, Refused}
+use Rattle.frame.proofs.FrameLaws.{done, plane-done, refused, plane-refused}
+use Rattle.image.specs.Image.{sourceless, firstSourceless, answerFound, imageAnswer}
+use Rattle.image.specs.Image as image
+
+-- ---- every element
+
+-- a verdict that was answered by Done, and by a refusal
+record ServedBy (v : Verdict) : Type 0 where
+  by : Served
+  is : v ≡ verdict.Served by
+
+done-served : (v : Verdict) → answerBy v ≡ Done → ServedBy v
+done-served (verdict.Served x) e = record { by = x; is = refl }
+done-served (verdict.Refused r) e = absurd (let z : _≡_ {A = ℕ} 0 1 = cc in omega arith)
+
+refusal-refused : (v : Verdict) (r : Refusal) → answerBy v ≡ Refused r → v ≡ verdict.Refused r
+refusal-refused (verdict.Served x) r e = absurd (let z : _≡_ {A = ℕ} 0 1 = cc in omega arith)
+refusal-refused (verdict.Refused q) r e = let f : q ≡ r = cc in ap verdict.Refused f
+
+-- an element inside the picture is an element of the plane
+pub index-inside : (width height stride j i : ℕ) → j < height → i < width → j * stride + i < needed width height stride
+index-inside width height stride j i a b = omega (arith, mul-le-mul-right {m = j} {n = height - 1} stride (omega arith))
+
+module _ (w : Way) (s : Setting) (a : Picture) (b : Side) where
+  -- Done exactly if no row applies
+  pub frame-done : (frameAnswer w s a b ≡ Done) ↔ Accepted (callOf w) w s a (b ∷ [])
+  unfolding frameAnswer
+  frame-done = (
+    λ e. let x = done-served (frameVerdict w s a b) e in accepted-of (callOf w) w s a (b ∷ []) (x .by) (x .is) .0,
+    λ k. ap answerBy (of-accepted (callOf w) w s a (b ∷ []) k),
+  )
+
+  -- after any call the plane is as long as before
+  by-length : (k : ℕ) (v : Verdict) → length (planeBy v k w a (b .stride) (lengthOf k b)) ≡ lengthOf k b
+  by-length k (verdict.Served x) = plane-length (lengthOf k b) (b .stride) (a .width) (a .height) _
+  by-length k (verdict.Refused r) = length-tab (lengthOf k b) _
+
+  pub frame-length : (k : ℕ) → length (outPlane k w s a b) ≡ lengthOf k b
+  unfolding outPlane
+  frame-length k = by-length k (frameVerdict w s a b)
+
+  -- a refused call zeroes every element
+  pub refused-zero : (r : Refusal) → frameAnswer w s a b ≡ Refused r → (k n : ℕ) → n < lengthOf k b → getD (outPlane k w s a b) n 0 ≡ 0
+  unfolding frameAnswer
+  refused-zero r e k n h =
+      ap (λ p. getD p n 0) (plane-refused w s a b r (refusal-refused (frameVerdict w s a b) r e) k) ∙ tab-at (lengthOf k b) _ n h
+
+  -- an accepted one writes the converted picture
+  module _ (e : frameAnswer w s a b ≡ Done) where
+    accepted : Accepted (callOf w) w s a (b ∷ [])
+    accepted = frame-done .0 e
+
+    pub done-plane : (k : ℕ) → outPlane k w s a b ≡ convertedPlane k w (served s) a (b .stride) (lengthOf k b)
+    done-plane k = plane-done w s a b (served s) (of-accepted (callOf w) w s a (b ∷ []) accepted) k
+
+    output-served : ServedSide (a .width) (a .height) b
+    output-served = sides-served (callOf w) w s a (b ∷ []) accepted .1 .0
+
+    long-enough : (k : ℕ) → k < 3 → needed (a .width) (a .height) (b .stride) ≤ lengthOf k b
+    long-enough zero h = output-served .long .long0
+    long-enough (suc zero) h = output-served .long .long1
+    long-enough (suc (suc zero)) h = output-served .long .long2
+    long-enough (suc (suc (suc k))) h = absurd (omega arith)
+
+    -- each picture element is the converted sample of its row and column
+    pub done-inside : (k j i : ℕ) → k < 3 → j < a .height → i < a .width
+        → sampleAt (outPlane k w s a b) (b .stride) j i ≡ sampleOf k (convert w (served s) (pixelOf a j i))
+    done-inside k j i h x y =
+        ap (λ p. sampleAt p (b .stride) j i) (done-plane k)
+        ∙ plane-inside (lengthOf k b) (b .stride) (a .width) (a .height) _ j i x y (output-served .sized .stride-within .from-least)
+        (omega (arith, index-inside (a .width) (a .height) (b .stride) j i x y, long-enough k h))
+
+    -- and every other element, in the padding and past the end, is 0
+    pub done-outside : (k n : ℕ) → n < lengthOf k b → ((j i : ℕ) → j < a .height → i < a .width → n ≡ j * b .stride + i → ⊥)
+        → getD (outPlane k w s a b) n 0 ≡ 0
+    done-outside k n h o =
+        ap (λ p. getD p n 0) (done-plane k) ∙ plane-outside (lengthOf k b) (b .stride) (a .width) (a .height) _ n h o
+
+-- ---- nothing else matters
+
+-- the same sizes with other planes
+abbrev pub withPlanes : Picture → List ℕ → List ℕ → List ℕ → Picture
+withPlanes a q0 q1 q2 = picture (a .width) (a .height) (a .stride) q0 q1 q2
+
+-- planes as long as the picture's own, with the same samples inside the picture
+pub record Alike (a : Picture) (q0 q1 q2 : List ℕ) : Type 0 where
+  pub long0 : length (a .p0) ≡ length q0
+  pub long1 : length (a .p1) ≡ length q1
+  pub long2 : length (a .p2) ≡ length q2
+  pub same0 : SamePicture (a .stride) (a .width) (a .height) (a .p0) q0
+  pub same1 : SamePicture (a .stride) (a .width) (a .height) (a .p1) q1
+  pub same2 : SamePicture (a .stride) (a .width) (a .height) (a .p2) q2
+
+module _ (a : Picture) (q0 q1 q2 : List ℕ) (e : Alike a q0 q1 q2) where
+  pixels : (j i : ℕ) → j < a .height → i < a .width → pixelOf a j i ≡ pixelOf (withPlanes a q0 q1 q2) j i
+  pixels = pixel-same (a .stride) (a .width) (a .height) (a .p0) (a .p1) (a .p2) q0 q1 q2 (e .same0) (e .same1) (e .same2)
+
+  same-verdict : (c : Call) (w : Way) (s : Setting) (others : List Side) → pictureVerdict c w s a others ≡ pictureVerdict c w s (withPlanes a q0 q1 q2) others
+  unfolding pictureVerdict
+  same-verdict c w s others =
+      rw (
+        e .long0,
+        e .long1,
+        e .long2,
+        bad-sample-same (a .p0) (a .p1) (a .p2) q0 q1 q2 (a .stride) (a .width) (a .height) _ (e .same0) (e .same1) (e .same2),
+      )
+
+  pub same-answer : (w : Way) (s : Setting) (b : Side) → frameAnswer w s a b ≡ frameAnswer w s (withPlanes a q0 q1 q2) b
+  unfolding frameAnswer
+  same-answer w s b = ap answerBy (same-verdict (callOf w) w s (b ∷ []))
+
+  by-same : (k : ℕ) (w : Way) (stride n : ℕ) (v : Verdict) → planeBy v k w a stride n ≡ planeBy v k w (withPlanes a q0 q1 q2) stride n
+  by-same k w stride n (verdict.Served x) =
+      plane-same n stride (a .width) (a .height) _ _ (λ j i h l. ap (λ p. sampleOf k (convert w x p)) (pixels j i h l))
+  by-same k w stride n (verdict.Refused r) = refl
+
+  pub same-plane : (k : ℕ) (w : Way) (s : Setting) (b : Side) → outPlane k w s a b ≡ outPlane k w s (withPlanes a q0 q1 q2) b
+  unfolding outPlane
+  same-plane k w s b =
+      by-same k w (b .stride) (lengthOf k b) (frameVerdict w s a b)
+      ∙ ap (λ v. planeBy v k w (withPlanes a q0 q1 q2) (b .stride) (lengthOf k b)) (same-verdict (callOf w) w s (b ∷ []))
+
+  found-same : (x : Served) → firstSourceless x a ≡ firstSourceless x (withPlanes a q0 q1 q2)
+  found-same x = first-place-same (sourceless x a) (sourceless x (withPlanes a q0 q1 q2)) 0 (a .width) (a .height) (λ j i h l. rw (pixels j i h l))
+
+  image-by-same : (v : Verdict) → image.answerBy v a ≡ image.answerBy v (withPlanes a q0 q1 q2)
+  image-by-same (verdict.Served x) = ap answerFound (found-same x)
+  image-by-same (verdict.Refused r) = refl
+
+  pub same-image : (s : Setting) → imageAnswer s a ≡ imageAnswer s (withPlanes a q0 q1 q2)
+  unfolding imageAnswer
+  same-image s =
+      image-by-same (pictureVerdict call.ImageCheck Reverse s a [])
+      ∙ ap (λ v. image.answerBy v (withPlanes a q0 q1 q2)) (same-verdict call.ImageCheck Reverse s [])

@@ -1,0 +1,148 @@
+-- Demand 3, the image check: it says yes exactly if some RGB picture within depth converts to the given one by the forward formulas, and
+-- otherwise names the first pixel that no RGB pixel within depth converts to.
+use mathlib.Core.Path.{_≡_, refl, sym, ap, _∙_, subst}
+use mathlib.Core.Bool.{true, false, true≢false, not}
+use mathlib.Core.List.{List, []}
+use mathlib.Core.Logic.{_↔_, _⊎_, inl, inr}
+use Prim.Native.Nat.{ℕ, _<_}
+use native.Mathlib.Omega.{arith}
+use borrow.Author.Tests.{not-true, not-false}
+use Rattle.sample.specs.Depth.{InsideRGB, InsideYCC}
+use Rattle.sample.proofs.Picks.{must}
+use Rattle.refusal.specs.declared.Place.{Place}
+use Rattle.plane.specs.First.{IsFirstPlace}
+use Rattle.plane.specs.Plane.{planeOf, sampleAt}
+use Rattle.plane.specs.Sizes.{needed}
+use Rattle.plane.specs.declared.search.Found.{Found}
+use Rattle.plane.specs.declared.search.Found.the-variants as found
+use Rattle.plane.proofs.PlaneTheorems.{plane-inside}
+use Rattle.plane.proofs.SearchTheorems.{no-place-means, first-place-means}
+use Rattle.setting.specs.Refusals.{depths, served, refusalOf}
+use Rattle.setting.specs.declared.Call.the-variants as call
+use Rattle.setting.specs.declared.Setting.{Setting}
+use Rattle.pixel.specs.Pixel.{convert}
+use Rattle.pixel.specs.Source.{HasSource, hasSource}
+use Rattle.pixel.specs.declared.Way.the-variants.{Forward, Reverse}
+use Rattle.pixel.proofs.ReadyLaws.{ready}
+use Rattle.pixel.proofs.PixelTheorems.{reverse-inside, same-pixel}
+use Rattle.picture.specs.Picture.{Picture, picture, pixelOf, EveryPixel}
+use Rattle.picture.proofs.Accepted.{Accepted, of-accepted, pixels-inside}
+use Rattle.row.specs.Row.{sampleOf}
+use Rattle.image.specs.Image.{sourceless, firstSourceless, answerFound, answerBy, imageAnswer}
+use Rattle.image.specs.declared.ImageAnswer.the-variants.{Yes, NoSource}
+use Rattle.promises.proofs.Lossless.{source-exactly}
+use Rattle.promises.proofs.Frames.{index-inside}
+
+-- an RGB picture within depth that converts to a by the forward formulas
+pub record SourcePicture (s : Setting) (a : Picture) : Type 0 where
+  pub source : Picture
+  pub width-is : source .width ≡ a .width
+  pub height-is : source .height ≡ a .height
+  pub inside : EveryPixel (InsideRGB (depths s)) source
+  pub converts : (j i : ℕ) → j < a .height → i < a .width → convert Forward (served s) (pixelOf source j i) ≡ pixelOf a j i
+
+-- what was found, from the answer
+yes-found : (f : Found) → answerFound f ≡ Yes → f ≡ found.Nothing
+yes-found (found.At place) e = absurd (let z : _≡_ {A = ℕ} 0 1 = cc in omega arith)
+yes-found found.Nothing e = refl
+
+none-found : (f : Found) (place : Place) → answerFound f ≡ NoSource place → f ≡ found.At place
+none-found (found.At q) place e = let g : q ≡ place = cc in ap found.At g
+none-found found.Nothing place e = absurd (let z : _≡_ {A = ℕ} 0 1 = cc in omega arith)
+
+-- a pixel without a source was named
+pub record Named (s : Setting) (a : Picture) : Type 0 where
+  pub place : Place
+  pub is : imageAnswer s a ≡ NoSource place
+
+by-found : {s : Setting} {a : Picture} (f : Found) → imageAnswer s a ≡ answerFound f → (imageAnswer s a ≡ Yes) ⊎ Named s a
+by-found (found.At place) e = inr (record { place = place; is = e })
+by-found found.Nothing e = inl e
+
+module _ (s : Setting) (a : Picture) (k : Accepted call.ImageCheck Reverse s a []) where
+  e : refusalOf call.ImageCheck s ≡ 0
+  e = k .setting
+
+  -- a call that no row refuses is answered by the search
+  searched : imageAnswer s a ≡ answerFound (firstSourceless (served s) a)
+  unfolding imageAnswer
+  searched = ap (λ v. answerBy v a) (of-accepted call.ImageCheck Reverse s a [] k)
+
+  within : (j i : ℕ) → j < a .height → i < a .width → InsideYCC (depths s) (pixelOf a j i)
+  within = pixels-inside call.ImageCheck Reverse s a [] k
+
+  -- the test of a pixel, and the claim
+  passing : (j i : ℕ) → j < a .height → i < a .width → (sourceless (served s) a j i ≡ false) ↔ HasSource (served s) (pixelOf a j i)
+  passing j i x y =
+      let t = source-exactly s e (pixelOf a j i) (within j i x y) in
+      (λ q. t .0 (not-false _ q), λ h. ap not (t .1 h))
+
+  failing : (j i : ℕ) → j < a .height → i < a .width → (sourceless (served s) a j i ≡ true) ↔ (HasSource (served s) (pixelOf a j i) → ⊥)
+  failing j i x y =
+      let t = source-exactly s e (pixelOf a j i) (within j i x y) in (
+        λ q h. true≢false (sym (t .1 h) ∙ not-true _ q),
+        λ f. must (sourceless (served s) a j i) (λ q. f (t .0 (not-false _ q))),
+      )
+
+  -- converting back gives the source of every pixel that has one; here it is as a picture, in planes of its own width
+  abbrev sample : ℕ → ℕ → ℕ → ℕ
+  sample n j i = sampleOf n (convert Reverse (served s) (pixelOf a j i))
+
+  abbrev plane : ℕ → List ℕ
+  plane n = planeOf (needed (a .width) (a .height) (a .width)) (a .width) (a .width) (a .height) (sample n)
+
+  abbrev made : Picture
+  made = picture (a .width) (a .height) (a .width) (plane 0) (plane 1) (plane 2)
+
+  made-sample : (n j i : ℕ) → j < a .height → i < a .width → sampleAt (plane n) (a .width) j i ≡ sample n j i
+  made-sample n j i x y =
+      plane-inside (needed (a .width) (a .height) (a .width)) (a .width) (a .width) (a .height) (sample n) j i x y (omega arith)
+      (index-inside (a .width) (a .height) (a .width) j i x y)
+
+  made-pixel : (j i : ℕ) → j < a .height → i < a .width → pixelOf made j i ≡ convert Reverse (served s) (pixelOf a j i)
+  made-pixel j i x y = λ t. record { p0 = made-sample 0 j i x y t; p1 = made-sample 1 j i x y t; p2 = made-sample 2 j i x y t }
+
+  made-source : ((j i : ℕ) → j < a .height → i < a .width → hasSource (served s) (pixelOf a j i) ≡ true) → SourcePicture s a
+  unfolding hasSource
+  made-source h =
+      record {
+        source = made;
+        width-is = refl;
+        height-is = refl;
+        inside = λ j i x y.
+            subst (InsideRGB (depths s)) (sym (made-pixel j i x y))
+            (reverse-inside (served s) (pixelOf a j i) (ready call.ImageCheck s e) (within j i x y));
+        converts = λ j i x y. ap (convert Forward (served s)) (made-pixel j i x y) ∙ same-pixel _ _ (h j i x y);
+      }
+
+  source-has : SourcePicture s a → (j i : ℕ) → j < a .height → i < a .width → HasSource (served s) (pixelOf a j i)
+  source-has p j i x y =
+      record {
+        source = pixelOf (p .source) j i;
+        inside = p .inside j i (omega (arith, x, p .height-is)) (omega (arith, y, p .width-is));
+        converts = p .converts j i x y;
+      }
+
+  every : (firstSourceless (served s) a ≡ found.Nothing) ↔ ((j i : ℕ) → j < a .height → i < a .width → HasSource (served s) (pixelOf a j i))
+  every = no-place-means (sourceless (served s) a) 0 (a .width) (a .height) _ _ failing passing
+
+  -- Yes exactly if there is such a picture
+  pub image-yes : (imageAnswer s a ≡ Yes) ↔ SourcePicture s a
+  image-yes = (
+    λ q.
+        let h = every .0 (yes-found (firstSourceless (served s) a) (sym searched ∙ q)) in
+        made-source (λ j i x y. source-exactly s e (pixelOf a j i) (within j i x y) .1 (h j i x y)),
+    λ p. searched ∙ ap answerFound (every .1 (source-has p)),
+  )
+
+  -- and NoSource with the first pixel, by row and then by column, that no RGB pixel within depth converts to
+  pub image-none : (place : Place)
+      → (imageAnswer s a ≡ NoSource place)
+      ↔ IsFirstPlace (λ j i. HasSource (served s) (pixelOf a j i) → ⊥) (λ j i. HasSource (served s) (pixelOf a j i)) 0 (a .width) (a .height) place
+  image-none place =
+      let t = first-place-means (sourceless (served s) a) 0 (a .width) (a .height) _ _ failing passing place in
+      (λ q. t .0 (none-found (firstSourceless (served s) a) place (sym searched ∙ q)), λ p. searched ∙ ap answerFound (t .1 p))
+
+  -- There is no third answer.
+  pub image-decides : (imageAnswer s a ≡ Yes) ⊎ Named s a
+  image-decides = by-found (firstSourceless (served s) a) searched
