@@ -49,6 +49,6 @@ no-bad Forward d p h = none p (tops Forward d) (below _ _ (h .in0)) (below _ _ (
 no-bad Reverse d p h = none p (tops Reverse d) (below _ _ (h .in0)) (below _ _ (h .in1)) (below _ _ (h .in2))
 
 pub accepted : (w : Way) (s : Setting) (p : Pixel) → refusalOf (callOf w) s ≡ 0 → InsideSource w (depths s) p
-  → pixelAnswer w s p ≡ Converted (convert w (served s) p)
+    → pixelAnswer w s p ≡ Converted (convert w (served s) p)
 unfolding pixelAnswer admitted judged
 accepted w s p e h = rw (e, no-bad w (depths s) p h)
