@@ -3,7 +3,7 @@ use mathlib.Core.Path.{_≡_, refl, sym, ap, _∙_}
 use mathlib.Core.Bool.{Bool, true, false, cond, _&&_}
 use mathlib.Core.List.{List, [], _∷_, _++_}
 use Prim.Native.Nat.{ℕ, zero, suc, _+_, _-_, _*_, _/_, _%_, _^_, _≤_, _<_}
-use native.Mathlib.Decide.{decLt}
+use native.Mathlib.Decide.{decLe, decLt}
 use native.Mathlib.Nat.{mod-eq-of-lt, pow-suc, one-le-pow, pow-le-pow-right}
 use native.Mathlib.Numerals.{add-one}
 use native.Mathlib.Omega.{arith}
@@ -120,3 +120,15 @@ fewest-most b least most n k p l h f = go (decLt most k)
     go : Dec (most < k) → k ≤ most
     go (yes g) = absurd (omega (arith, f .2 (omega arith), pow-le-pow-right {n = b} p {i = most} {j = k - 1} (omega arith)))
     go (no g) = omega arith
+
+-- a word that was read as a number is no larger than asked
+pub number-most : (w : List ℕ) (most v : ℕ) → numberOf w most ≡ number.Value v → v ≤ most
+unfolding numberOf
+number-most w most v e = go (ltb 0 (length w)) (allDigits w) (decLe (valueOf 0 w) most) e
+  where
+    go : (t u : Bool) → Dec (valueOf 0 w ≤ most)
+        → cond (t && (u && leb (valueOf 0 w) most)) (number.Value (valueOf 0 w)) number.Nothing ≡ number.Value v → v ≤ most
+    go true true (yes h) e = let f : valueOf 0 w ≡ v = (let g = rw (le-leb _ _ h) at e in cc) in omega arith
+    go true true (no h) e = absurd (let f = rw (lt-leb (valueOf 0 w) most (omega arith)) at e in let z : _≡_ {A = ℕ} 0 1 = cc in omega arith)
+    go true false d e = absurd (let z : _≡_ {A = ℕ} 0 1 = cc in omega arith)
+    go false u d e = absurd (let z : _≡_ {A = ℕ} 0 1 = cc in omega arith)
