@@ -13,6 +13,7 @@
  *   3. An output plane overlaps no other plane of the call. Source planes may be one and the same.
  *   4. Nobody else writes to a source plane, or reads or writes an output plane, while a call runs.
  *   5. A bool holds 0 or 1. It always does, unless its byte was written as something other than a bool.
+ *   6. For the meter: the processor rounds floats to nearest, as every program starts out.
  *
  * If one of these is broken, nothing that is promised holds.
  */

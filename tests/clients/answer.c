@@ -1,5 +1,8 @@
-/* Answers the oracle's cases by the library, through the C header, in the oracle's words. Valid as C99 and as C++17. */
+/* Answers the oracle's cases by the library, through the C header, in the oracle's words. Valid as C99 and as C++17. With the word
+ * `unfilled` the output planes are left as the allocator gave them, for a memory checker that knows what was never written. */
 #include "cases.h"
+
+static bool filled = true;
 
 static void print_refusal(cork_answer a)
 {
@@ -90,7 +93,7 @@ static void frame_case_of(char letter)
     for (int k = 0; k < 3; k++) {
         output.length[k] = c.output_length[k];
         output.plane[k] = new_plane(output.length[k]);
-        for (size_t i = 0; i < output.length[k]; i++) output.plane[k][i] = 0xa5a5;
+        for (size_t i = 0; filled && i < output.length[k]; i++) output.plane[k][i] = 0xa5a5;
     }
     cork_answer a = convert_frame(&c, source_of(&c), output);
     if (cork_accepted(a))
@@ -117,8 +120,9 @@ static void image_case(void)
     free_source(&c);
 }
 
-int main(void)
+int main(int count, char **words)
 {
+    filled = !(count > 1 && strcmp(words[1], "unfilled") == 0);
     for (char letter; (letter = next_case()) != 0;) {
         switch (letter) {
         case 'p': print_label(cork_primaries_label((uint8_t)number())); break;
