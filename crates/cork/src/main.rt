@@ -128,6 +128,11 @@ fn samples(forward: bool, p: Pixel) {
     say(b"\n");
 }
 
+// Half, rounded up.
+fn half_of(n: u64) -> u64 {
+    n / 2 + n % 2
+}
+
 // A level's size in millionths, to the nearest. A float of an exponent below 127 + 23 is its 24 bits over a power of two; no level is 4
 // or more.
 fn millionths(bits: u32) -> u64 {
@@ -140,8 +145,7 @@ fn millionths(bits: u32) -> u64 {
         return 0;
     }
     let shift = 150 - exponent;
-    let half = 1u64 << (shift - 1);
-    (mantissa * 1000000 + half) >> shift
+    half_of((mantissa * 2000000) >> shift)
 }
 
 fn digit(n: u64) {

@@ -17,7 +17,8 @@ use Rattle.meter.proofs.Scales.{level-is-number}
 use Rattle.pixel.specs.declared.Way.the-variants.{Reverse}
 use Rattle.corkplover.specs.Admit.{badOne, admitted, admittedOne}
 use Rattle.corkplover.specs.Answers.{readBy, reading, levelsBy, levelsAnswer}
-use Rattle.corkplover.proofs.AdmitLaws.{past-both, verdict-ready, let-in}
+use Rattle.corkplover.proofs.AdmitLaws.{verdict-ready, let-in}
+use Rattle.picture.proofs.VerdictLaws.{past-both}
 use Rattle.desk.specs.Answers.{NumberIn, NumbersIn}
 
 pub reading-number : (k : SampleKind) (s : Setting) (v : ℕ) → v ≤ 65536 → NumberIn (reading k s v)

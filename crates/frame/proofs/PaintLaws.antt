@@ -10,7 +10,7 @@ use Rattle.setting.specs.declared.verdict.Served.{Served}
 use Rattle.plane.specs.Plane.{planeOf, patched, cleared}
 use Rattle.plane.specs.Sizes.{Long, RowStart, ServedSide}
 use Rattle.plane.specs.declared.size.Side.{Side}
-use Rattle.plane.proofs.Painted.{part-width, part-sample, Progress, progress-none, progress-more, Painted, painted-none, painted-more, painted-end, cleared-length}
+use Rattle.plane.proofs.Painted.{part-width, part-sample, Progress, progress-none, progress-more, Painted, painted-none, painted-more, painted-end}
 use Rattle.pixel.specs.Pixel.{convert}
 use Rattle.pixel.specs.declared.Way.{Way}
 use Rattle.picture.specs.Picture.{Picture, sideOfPicture, pixelOf, EveryPixel}
@@ -55,84 +55,85 @@ pub record Painting (way : Way) (s : Served) (a : Picture) (b : Side) (y0 y1 y2 
   pub plane1 : Painted (b .stride) (a .width) (a .height) (convertedSample 1 way s a) (b .n1) y1 j done
   pub plane2 : Painted (b .stride) (a .width) (a .height) (convertedSample 2 way s a) (b .n2) y2 j done
 
-module _ (way : Way) (s : Served) (a : Picture) (b : Side) where
-  pub painting-none : (y0 y1 y2 : List ℕ) → length y0 ≡ b .n0 → length y1 ≡ b .n1 → length y2 ≡ b .n2 → Painting way s a b y0 y1 y2 0 0
-  painting-none y0 y1 y2 l0 l1 l2 =
+pub painting-none : (way : Way) (s : Served) (a : Picture) (b : Side) (y0 y1 y2 : List ℕ) → length y0 ≡ b .n0 → length y1 ≡ b .n1 → length y2 ≡ b .n2
+    → Painting way s a b y0 y1 y2 0 0
+painting-none way s a b y0 y1 y2 l0 l1 l2 =
+    record {
+      progress = progress-none _ _ _;
+      plane0 = painted-none _ _ _ _ _ y0 l0;
+      plane1 = painted-none _ _ _ _ _ y1 l1;
+      plane2 = painted-none _ _ _ _ _ y2 l2;
+    }
+
+-- A turn at row j, which starts at `from` in the planes that are read and at `to` in those that are written.
+pub record Turn (way : Way) (s : Served) (a : Picture) (b : Side) (y0 y1 y2 : List ℕ) (j done from to : ℕ) : Type 0 where
+  pub source-side : ServedSide (a .width) (a .height) (sideOfPicture a)
+  pub output-side : ServedSide (a .width) (a .height) b
+  pub so-far : Painting way s a b y0 y1 y2 j done
+  pub row-inside : j < a .height
+  pub starts-from : RowStart j (a .stride) (a .height) from
+  pub starts-to : RowStart j (b .stride) (a .height) to
+
+module _ {way : Way} {s : Served} {a : Picture} {b : Side} {y0 y1 y2 : List ℕ} {j done from to : ℕ} (t : Turn way s a b y0 y1 y2 j done from to) where
+  -- the parts to be lent lie inside the planes
+  pub source-long : Long (from + a .width) (length (a .p0)) (length (a .p1)) (length (a .p2))
+  source-long = let k = t .source-side .long in omega (arith, t .starts-from .last)
+
+  pub gap-long : (done ≤ to) × Long to (length y0) (length y1) (length y2)
+  gap-long = let k = t .output-side .long in let d = t .so-far in omega (arith, t .starts-to .last, t .starts-to .is, d .progress .until-row, d .plane0 .len, d .plane1 .len, d .plane2 .len)
+
+  pub row-long : (n0 n1 n2 : ℕ) → n0 ≡ length y0 → n1 ≡ length y1 → n2 ≡ length y2 → Long (to + a .width) n0 n1 n2
+  row-long n0 n1 n2 l0 l1 l2 = let k = t .output-side .long in let d = t .so-far in omega (arith, t .starts-to .last, d .plane0 .len, d .plane1 .len, d .plane2 .len)
+
+  -- row n of the three that are made of the source parts
+  abbrev made : ℕ → List ℕ
+  made n = rowOf n (convert way s) (part (a .p0) from (a .width)) (part (a .p1) from (a .width)) (part (a .p2) from (a .width))
+
+  -- y was zeroed up to the row, and then had the row put into its own part
+  turned : (n l : ℕ) (y z w : List ℕ) → to + a .width ≤ l → Painted (b .stride) (a .width) (a .height) (convertedSample n way s a) l y j done
+      → z ≡ cleared y done to → w ≡ patched z to (to + a .width) (made n)
+      → Painted (b .stride) (a .width) (a .height) (convertedSample n way s a) l w (j + 1) (to + a .width)
+  turned n l y z w k p e f =
+      painted-more (b .stride) (a .width) (a .height) (convertedSample n way s a) l y z _ w j done to _ _ p
+      (t .output-side .sized .stride-within .from-least) (t .row-inside) (gap-long .0) (t .starts-to .is) k e refl
+      (part-width (a .p0) from (a .width) (source-long .long0))
+      (λ i o. ap (λ q. sampleOf n (convert way s q)) (part-pixel a j from (t .starts-from .is) i o)) f
+
+  pub painting-more : {z0 z1 z2 w0 w1 w2 : List ℕ} → z0 ≡ cleared y0 done to → z1 ≡ cleared y1 done to → z2 ≡ cleared y2 done to
+      → w0 ≡ patched z0 to (to + a .width) (made 0) → w1 ≡ patched z1 to (to + a .width) (made 1) → w2 ≡ patched z2 to (to + a .width) (made 2)
+      → Painting way s a b w0 w1 w2 (j + 1) (to + a .width)
+  painting-more e0 e1 e2 f0 f1 f2 =
+      let k = t .output-side .long in
+      let d = t .so-far in
       record {
-        progress = progress-none _ _ _;
-        plane0 = painted-none _ _ _ _ _ y0 l0;
-        plane1 = painted-none _ _ _ _ _ y1 l1;
-        plane2 = painted-none _ _ _ _ _ y2 l2;
+        progress = progress-more _ _ _ _ _ _ (d .progress) (t .row-inside) (t .output-side .sized .stride-within .from-least) (t .starts-to);
+        plane0 = turned 0 (b .n0) y0 _ _ (omega (arith, t .starts-to .last)) (d .plane0) e0 f0;
+        plane1 = turned 1 (b .n1) y1 _ _ (omega (arith, t .starts-to .last)) (d .plane1) e1 f1;
+        plane2 = turned 2 (b .n2) y2 _ _ (omega (arith, t .starts-to .last)) (d .plane2) e2 f2;
       }
 
-  -- a turn at row j, which starts at `from` on one side and at `to` on the other
-  module _ (wa : ServedSide (a .width) (a .height) (sideOfPicture a)) (wb : ServedSide (a .width) (a .height) b)
-      (y0 y1 y2 : List ℕ) (j done from to : ℕ) (d : Painting way s a b y0 y1 y2 j done) (h : j < a .height)
-      (rf : RowStart j (a .stride) (a .height) from) (rt : RowStart j (b .stride) (a .height) to) where
-    -- what the parts ask
-    pub source-long : Long (from + a .width) (length (a .p0)) (length (a .p1)) (length (a .p2))
-    source-long = let k = wa .long in omega (arith, rf .last)
+-- after the last row
+module _ {way : Way} {s : Served} {a : Picture} {b : Side} {y0 y1 y2 : List ℕ} {j done : ℕ} (side : ServedSide (a .width) (a .height) b)
+    (d : Painting way s a b y0 y1 y2 j done) where
+  pub rest-long : Long done (length y0) (length y1) (length y2)
+  rest-long = let k = side .long in omega (arith, d .progress .until-end, d .plane0 .len, d .plane1 .len, d .plane2 .len)
 
-    pub gap-long : (done ≤ to) × Long to (length y0) (length y1) (length y2)
-    gap-long = let k = wb .long in omega (arith, rt .last, rt .is, d .progress .until-row, d .plane0 .len, d .plane1 .len, d .plane2 .len)
+  finished : (n l : ℕ) (y z : List ℕ) → Painted (b .stride) (a .width) (a .height) (convertedSample n way s a) l y j done
+      → j ≡ a .height → done ≤ l → z ≡ cleared y done (length y) → z ≡ convertedPlane n way s a (b .stride) l
+  finished n l y z p q k e =
+      painted-end (b .stride) (a .width) (a .height) (convertedSample n way s a) l y z j done p
+      (omega (arith, side .sized .width-within .from-least, side .sized .stride-within .from-least)) q k (rw (p .len) at e)
 
-    -- after the gap, y is z, which has zeros up to the row
-    module _ (z0 z1 z2 : List ℕ) (e0 : z0 ≡ cleared y0 done to) (e1 : z1 ≡ cleared y1 done to) (e2 : z2 ≡ cleared y2 done to) where
-      gap-kept : (n : ℕ) (y z : List ℕ) → length y ≡ n → z ≡ cleared y done to → to ≤ n → length z ≡ n
-      gap-kept n y z l e k = rw e (cleared-length 0 0 0 (λ j i. 0) n y done to l (gap-long .0) k)
-
-      pub row-long : Long (to + a .width) (length z0) (length z1) (length z2)
-      row-long =
-          let k = wb .long in
-          let l0 = gap-kept (b .n0) y0 z0 (d .plane0 .len) e0 (omega (arith, rt .last)) in
-          let l1 = gap-kept (b .n1) y1 z1 (d .plane1 .len) e1 (omega (arith, rt .last)) in
-          let l2 = gap-kept (b .n2) y2 z2 (d .plane2 .len) e2 (omega (arith, rt .last)) in
-          omega (arith, rt .last)
-
-      -- a row of plane k, made of the lent parts and put into its own
-      turned : (k n : ℕ) (y z w : List ℕ) → to + a .width ≤ n → Painted (b .stride) (a .width) (a .height) (convertedSample k way s a) n y j done
-          → z ≡ cleared y done to
-          → w ≡ patched z to (to + a .width) (rowOf k (convert way s) (part (a .p0) from (a .width)) (part (a .p1) from (a .width)) (part (a .p2) from (a .width)))
-          → Painted (b .stride) (a .width) (a .height) (convertedSample k way s a) n w (j + 1) (to + a .width)
-      turned k n y z w l p e f =
-          painted-more (b .stride) (a .width) (a .height) (convertedSample k way s a) n y z _ w j done to _ _ p
-          (wb .sized .stride-within .from-least) h (gap-long .0) (rt .is) l e refl (part-width (a .p0) from (a .width) (source-long .long0))
-          (λ i o. ap (λ p. sampleOf k (convert way s p)) (part-pixel a j from (rf .is) i o)) f
-
-      pub painting-more : (w0 w1 w2 : List ℕ)
-          → w0 ≡ patched z0 to (to + a .width) (rowOf 0 (convert way s) (part (a .p0) from (a .width)) (part (a .p1) from (a .width)) (part (a .p2) from (a .width)))
-          → w1 ≡ patched z1 to (to + a .width) (rowOf 1 (convert way s) (part (a .p0) from (a .width)) (part (a .p1) from (a .width)) (part (a .p2) from (a .width)))
-          → w2 ≡ patched z2 to (to + a .width) (rowOf 2 (convert way s) (part (a .p0) from (a .width)) (part (a .p1) from (a .width)) (part (a .p2) from (a .width)))
-          → Painting way s a b w0 w1 w2 (j + 1) (to + a .width)
-      painting-more w0 w1 w2 f0 f1 f2 =
-          let k = wb .long in
-          record {
-            progress = progress-more _ _ _ _ _ _ (d .progress) h (wb .sized .stride-within .from-least) rt;
-            plane0 = turned 0 (b .n0) y0 z0 w0 (omega (arith, rt .last)) (d .plane0) e0 f0;
-            plane1 = turned 1 (b .n1) y1 z1 w1 (omega (arith, rt .last)) (d .plane1) e1 f1;
-            plane2 = turned 2 (b .n2) y2 z2 w2 (omega (arith, rt .last)) (d .plane2) e2 f2;
-          }
-
-  -- after the last row
-  module _ (wb : ServedSide (a .width) (a .height) b) (y0 y1 y2 : List ℕ) (j done : ℕ) (d : Painting way s a b y0 y1 y2 j done) where
-    pub rest-long : Long done (length y0) (length y1) (length y2)
-    rest-long = let k = wb .long in omega (arith, d .progress .until-end, d .plane0 .len, d .plane1 .len, d .plane2 .len)
-
-    finished : (k n : ℕ) (y z : List ℕ) → Painted (b .stride) (a .width) (a .height) (convertedSample k way s a) n y j done
-        → j ≡ a .height → done ≤ n → z ≡ cleared y done (length y) → z ≡ convertedPlane k way s a (b .stride) n
-    finished k n y z p q l e =
-        painted-end (b .stride) (a .width) (a .height) (convertedSample k way s a) n y z j done p
-        (omega (arith, wb .sized .width-within .from-least, wb .sized .stride-within .from-least)) q l (rw (p .len) at e)
-
-    pub painting-end : (z0 z1 z2 : List ℕ) → a .height ≤ j
-        → z0 ≡ cleared y0 done (length y0) → z1 ≡ cleared y1 done (length y1) → z2 ≡ cleared y2 done (length y2)
-        → (z0 ≡ convertedPlane 0 way s a (b .stride) (b .n0)) × ((z1 ≡ convertedPlane 1 way s a (b .stride) (b .n1)) × (z2 ≡ convertedPlane 2 way s a (b .stride) (b .n2)))
-    painting-end z0 z1 z2 h e0 e1 e2 =
-        let q : j ≡ a .height = omega (arith, d .progress .rows) in
-        let k = rest-long in (
-          finished 0 (b .n0) y0 z0 (d .plane0) q (omega (arith, d .plane0 .len)) e0,
-          (
-            finished 1 (b .n1) y1 z1 (d .plane1) q (omega (arith, d .plane1 .len)) e1,
-            finished 2 (b .n2) y2 z2 (d .plane2) q (omega (arith, d .plane2 .len)) e2,
-          ),
-        )
+  pub painting-end : {z0 z1 z2 : List ℕ} → a .height ≤ j
+      → z0 ≡ cleared y0 done (length y0) → z1 ≡ cleared y1 done (length y1) → z2 ≡ cleared y2 done (length y2)
+      → (z0 ≡ convertedPlane 0 way s a (b .stride) (b .n0))
+      × ((z1 ≡ convertedPlane 1 way s a (b .stride) (b .n1)) × (z2 ≡ convertedPlane 2 way s a (b .stride) (b .n2)))
+  painting-end h e0 e1 e2 =
+      let q : j ≡ a .height = omega (arith, d .progress .rows) in
+      let k = rest-long in (
+        finished 0 (b .n0) y0 _ (d .plane0) q (omega (arith, d .plane0 .len)) e0,
+        (
+          finished 1 (b .n1) y1 _ (d .plane1) q (omega (arith, d .plane1 .len)) e1,
+          finished 2 (b .n2) y2 _ (d .plane2) q (omega (arith, d .plane2 .len)) e2,
+        ),
+      )

@@ -10,4 +10,5 @@ pub mod FrameRefusals
 pub mod Frames
 pub mod FrameLossless
 pub mod Images
+pub mod WholeFrames
 pub mod WrongBoxes

@@ -1,17 +1,28 @@
 -- Any two results that a contract allows are equal: every entry point's contract says that its result is one definition's value.
-use mathlib.Core.Path.{_≡_, sym, _∙_}
+use mathlib.Core.Path.{_≡_, sym, _∙_, subst}
+use mathlib.Core.List.{List}
 use Prim.Native.Nat.{ℕ}
+use lib.ListN.{length}
 use Rattle.sample.specs.declared.Pixel.{Pixel}
 use Rattle.setting.specs.Label.{primariesLabel, transferLabel, matrixLabel}
 use Rattle.setting.specs.declared.Setting.{Setting}
 use Rattle.setting.specs.declared.label.Label.{Label}
 use Rattle.meter.specs.declared.SampleKind.{SampleKind}
+use Rattle.plane.specs.Sizes.{sideOf}
+use Rattle.plane.specs.declared.size.Side.{Side}
+use Rattle.pixel.specs.declared.Way.{Way}
 use Rattle.pixel.specs.declared.Way.the-variants.{Forward, Reverse}
+use Rattle.picture.specs.Picture.{Picture}
+use Rattle.frame.specs.Frame.{frameAnswer, outPlane}
+use Rattle.frame.specs.declared.FrameAnswer.{FrameAnswer}
+use Rattle.image.specs.Image.{imageAnswer}
+use Rattle.image.specs.declared.ImageAnswer.{ImageAnswer}
 use Rattle.corkplover.specs.Answers.{pixelAnswer, sourceAnswer, reading, levelsAnswer}
 use Rattle.corkplover.specs.declared.one_pixel.PixelAnswer.{PixelAnswer}
 use Rattle.corkplover.specs.declared.one_pixel.SourceAnswer.{SourceAnswer}
 use Rattle.corkplover.specs.declared.spot.Reading.{Reading}
 use Rattle.corkplover.specs.declared.spot.LevelsAnswer.{LevelsAnswer}
+use Rattle.promises.proofs.Frames.{withPlanes, Alike, same-answer, same-plane}
 
 once : {A : Type 0} {x a b : A} → a ≡ x → b ≡ x → a ≡ b
 once e f = e ∙ sym f
@@ -39,3 +50,42 @@ meter-sample-once k s v a b = once
 
 pub meter-pixel-once : (s : Setting) (p : Pixel) (a b : LevelsAnswer) → a ≡ levelsAnswer s p → b ≡ levelsAnswer s p → a ≡ b
 meter-pixel-once s p a b = once
+
+pub check-image-once : (s : Setting) (a : Picture) (x y : ImageAnswer) → x ≡ imageAnswer s a → y ≡ imageAnswer s a → x ≡ y
+check-image-once s a x y = once
+
+-- what the contract of a frame call says: its answer, and the three planes that it leaves
+pub record FrameLeft (w : Way) (s : Setting) (a : Picture) (b : Side) (x : FrameAnswer) (y0 y1 y2 : List ℕ) : Type 0 where
+  pub answer : x ≡ frameAnswer w s a b
+  pub plane0 : y0 ≡ outPlane 0 w s a b
+  pub plane1 : y1 ≡ outPlane 1 w s a b
+  pub plane2 : y2 ≡ outPlane 2 w s a b
+
+-- the same answer and the same planes
+abbrev pub Equal : FrameAnswer → FrameAnswer → List ℕ → List ℕ → List ℕ → List ℕ → List ℕ → List ℕ → Type 0
+Equal x x' y0 z0 y1 z1 y2 z2 = (x ≡ x') × ((y0 ≡ z0) × ((y1 ≡ z1) × (y2 ≡ z2)))
+
+pub frame-once : (w : Way) (s : Setting) (a : Picture) (b : Side) {x x' : FrameAnswer} {y0 y1 y2 z0 z1 z2 : List ℕ}
+    → FrameLeft w s a b x y0 y1 y2 → FrameLeft w s a b x' z0 z1 z2 → Equal x x' y0 z0 y1 z1 y2 z2
+frame-once w s a b e f =
+    (once (e .answer) (f .answer), (once (e .plane0) (f .plane0), (once (e .plane1) (f .plane1), once (e .plane2) (f .plane2))))
+
+-- Nothing of an earlier client remains, and no padding matters: two calls whose source planes agree in length and inside the picture, and
+-- whose output planes o and p have the same lengths, whatever those held, leave the same.
+pub nothing-remains : (w : Way) (s : Setting) (a : Picture) (q0 q1 q2 : List ℕ) → Alike a q0 q1 q2
+    → (stride : ℕ) (o0 o1 o2 p0 p1 p2 : List ℕ) → length o0 ≡ length p0 → length o1 ≡ length p1 → length o2 ≡ length p2
+    → {x x' : FrameAnswer} {y0 y1 y2 z0 z1 z2 : List ℕ}
+    → FrameLeft w s a (sideOf stride (length o0) (length o1) (length o2)) x y0 y1 y2
+    → FrameLeft w s (withPlanes a q0 q1 q2) (sideOf stride (length p0) (length p1) (length p2)) x' z0 z1 z2
+    → Equal x x' y0 z0 y1 z1 y2 z2
+nothing-remains w s a q0 q1 q2 alike stride o0 o1 o2 p0 p1 p2 l0 l1 l2 {x} {x'} {y0} {y1} {y2} e f =
+    let b = sideOf stride (length p0) (length p1) (length p2) in
+    let same : sideOf stride (length o0) (length o1) (length o2) ≡ b = rw (l0, l1, l2) in
+    let g = subst (λ (d : Side). FrameLeft w s a d x y0 y1 y2) same e in
+    frame-once w s (withPlanes a q0 q1 q2) b
+    (record {
+      answer = g .answer ∙ same-answer a q0 q1 q2 alike w s b;
+      plane0 = g .plane0 ∙ same-plane a q0 q1 q2 alike 0 w s b;
+      plane1 = g .plane1 ∙ same-plane a q0 q1 q2 alike 1 w s b;
+      plane2 = g .plane2 ∙ same-plane a q0 q1 q2 alike 2 w s b;
+    }) f

@@ -9,7 +9,7 @@ use Rattle.plane.specs.declared.size.Side.{Side}
 use Rattle.pixel.specs.Pixel.{InsideSource}
 use Rattle.picture.specs.Picture.{Picture, picture}
 use Rattle.frame.specs.Frame.{sourceOf, outputOf}
-use Rattle.frame.proofs.PaintLaws.{part-every, Painting, painting-none, source-long, gap-long, row-long, painting-more, rest-long, painting-end}
+use Rattle.frame.proofs.PaintLaws.{part-every, Painting, painting-none, Turn, source-long, gap-long, row-long, painting-more, rest-long, painting-end}
 use Rattle.frame.proofs.paint.paint.Statement.{statement}
 use Rattle.frame.proofs.paint.paint.Tie as tie
 
@@ -27,6 +27,19 @@ source c = sourceOf (c .args .size) (c .args .a0 .now) (c .args .a1 .now) (c .ar
 abbrev output : tie.Start Inv-loop μ-loop → Side
 output c = outputOf (c .args .size) (length (c .args .b0 .now)) (length (c .args .b1 .now)) (length (c .args .b2 .now))
 
+-- a turn, once both starts of its row are known
+turn : (c : tie.After-row-start2 Inv-loop μ-loop)
+    → Turn (c .before .before .before .before .before .before .before .before .before .before .before .args .way) (c .before .before .before .before .before .before .before .before .before .before .before .args .s) (source (c .before .before .before .before .before .before .before .before .before .before .before)) (output (c .before .before .before .before .before .before .before .before .before .before .before)) (c .before .before .before .loop .b0) (c .before .before .before .loop .b1) (c .before .before .before .loop .b2) (c .before .before .before .loop .j) (c .before .before .before .loop .done) (c .before .row-start .result) (c .row-start2 .result)
+turn c =
+    record {
+      source-side = c .before .before .before .before .before .before .before .before .before .before .before .pre .1 .0;
+      output-side = c .before .before .before .before .before .before .before .before .before .before .before .pre .1 .1 .0;
+      so-far = c .before .before .before .loop .inv;
+      row-inside = c .before .before .loop-test .taken;
+      starts-from = c .before .row-start .ensures;
+      starts-to = c .row-start2 .ensures;
+    }
+
 prepare-requires : tie.Need-prepare-requires Inv-loop μ-loop
 prepare-requires c κs = search needs
 
@@ -40,58 +53,36 @@ row-start-requires-2 : tie.Need-row-start-requires-2 Inv-loop μ-loop
 row-start-requires-2 c κs = search needs
 
 zero-gap-requires : tie.Need-zero-gap-requires Inv-loop μ-loop
-zero-gap-requires c κs =
-    let s = c .before .before .before .before .before .before .before .before .before .before .before .before .before .before in
-    let l = c .before .before .before .before .before .before .loop in
-    gap-long (s .args .way) (s .args .s) (source s) (output s) (s .pre .1 .0) (s .pre .1 .1 .0) _ _ _ (l .j) (l .done) _ _ (l .inv) (c .before .before .before .before .before .loop-test .taken) (c .before .before .before .before .row-start .ensures) (c .before .before .before .row-start2 .ensures)
+zero-gap-requires c κs = let k = gap-long (turn (c .before .before .before)) in omega arith
 
 paint-row-requires : tie.Need-paint-row-requires Inv-loop μ-loop
 paint-row-requires c κs =
+    let t = turn (c .before .before .before .before .before .before .before .before .before .before .before .before .before) in
     let s = c .before .before .before .before .before .before .before .before .before .before .before .before .before .before .before .before .before .before .before .before .before .before .before .before in
-    let l = c .before .before .before .before .before .before .before .before .before .before .before .before .before .before .before .before .loop in
-    let g = c .before .before .before .before .before .before .before .before .before .zero-gap .ensures in
-    let rf = c .before .before .before .before .before .before .before .before .before .before .before .before .before .before .row-start .ensures in
-    let rt = c .before .before .before .before .before .before .before .before .before .before .before .before .before .row-start2 .ensures in
-    let h = c .before .before .before .before .before .before .before .before .before .before .before .before .before .before .before .loop-test .taken in
-    let a = source s in
-    let b = output s in
-    let w = source-long (s .args .way) (s .args .s) a b (s .pre .1 .0) (s .pre .1 .1 .0) _ _ _ (l .j) (l .done) _ _ (l .inv) h rf rt in (
-      s .pre .0,
-      (
-        c .before .before .before .before .before .before .before .before .before .before .before .before .before .before .before .before .before .prepare .ensures,
-        (
-          w,
-          (
-            row-long (s .args .way) (s .args .s) a b (s .pre .1 .0) (s .pre .1 .1 .0) _ _ _ (l .j) (l .done) _ _ (l .inv) h rf rt _ _ _ (g .0) (g .1 .0) (g .1 .1),
-            part-every a (l .j) _ (rf .is) (InsideSource (s .args .way) (s .args .s .depths)) (s .pre .1 .1 .1) h (w .long0),
-          ),
-        ),
-      ),
-    )
+    let x = s .args in
+    let kept = c .before .before .before .before .before .before .before .before .before .zero-gap .kept in
+    let long = source-long t in
+    let room = row-long t _ _ _ (kept .0) (kept .1 .0) (kept .1 .1 .0) in
+    let inside = part-every (source s) (c .before .before .before .before .before .before .before .before .before .before .before .before .before .before .before .before .loop .j) _ (t .starts-from .is) (InsideSource (x .way) (x .s .depths)) (s .pre .1 .1 .1) (t .row-inside) (long .long0) in
+    (s .pre .0, (c .before .before .before .before .before .before .before .before .before .before .before .before .before .before .before .before .before .prepare .ensures, (long, (omega arith, inside))))
 
 add-done : tie.Need-add-done Inv-loop μ-loop
-add-done c = omega (arith, c .before .before .before .before .before .before .before .before .before .before .before .before .before .before .before .before .before .before .before .before .row-start2 .ensures .most, c .before .before .before .before .before .before .before .before .before .before .before .before .before .before .before .before .before .before .before .before .before .before .before .before .before .before .before .before .before .before .before .pre .1 .1 .0)
+add-done c = let t = turn (c .before .before .before .before .before .before .before .before .before .before .before .before .before .before .before .before .before .before .before .before) in omega (arith, t .starts-to .most, t .output-side)
 
 add-j : tie.Need-add-j Inv-loop μ-loop
-add-j c = omega (arith, c .before .before .before .before .before .before .before .before .before .before .before .before .before .before .before .before .before .before .before .before .before .before .loop-test .taken, c .before .before .before .before .before .before .before .before .before .before .before .before .before .before .before .before .before .before .before .before .before .before .before .before .before .before .before .before .before .before .before .pre .1 .1 .0)
+add-j c = let t = turn (c .before .before .before .before .before .before .before .before .before .before .before .before .before .before .before .before .before .before .before .before) in omega (arith, t .row-inside, t .output-side)
 
 loop-less : tie.Need-loop-less Inv-loop μ-loop
-loop-less c = omega (arith, c .before .before .before .before .before .before .before .before .before .before .before .before .before .before .before .before .before .before .before .before .before .before .loop-test .taken)
+loop-less c = let t = turn (c .before .before .before .before .before .before .before .before .before .before .before .before .before .before .before .before .before .before .before .before) in omega (arith, t .row-inside)
 
 loop-again : tie.Need-loop-again Inv-loop μ-loop
 loop-again c =
-    let s = c .before .before .before .before .before .before .before .before .before .before .before .before .before .before .before .before .before .before .before .before .before .before .before .before .before .before .before .before .before .before .before in
-    let l = c .before .before .before .before .before .before .before .before .before .before .before .before .before .before .before .before .before .before .before .before .before .before .before .loop in
     let g = c .before .before .before .before .before .before .before .before .before .before .before .before .before .before .before .before .zero-gap .ensures in
     let e = c .before .before .before .before .before .before .paint-row .ensures in
-    painting-more (s .args .way) (s .args .s) (source s) (output s) (s .pre .1 .0) (s .pre .1 .1 .0) _ _ _ (l .j) (l .done) _ _ (l .inv) (c .before .before .before .before .before .before .before .before .before .before .before .before .before .before .before .before .before .before .before .before .before .before .loop-test .taken) (c .before .before .before .before .before .before .before .before .before .before .before .before .before .before .before .before .before .before .before .before .before .row-start .ensures) (c .before .before .before .before .before .before .before .before .before .before .before .before .before .before .before .before .before .before .before .before .row-start2 .ensures)
-    _ _ _ (g .0) (g .1 .0) (g .1 .1) _ _ _ (e .0) (e .1 .0) (e .1 .1)
+    painting-more (turn (c .before .before .before .before .before .before .before .before .before .before .before .before .before .before .before .before .before .before .before .before)) (g .0) (g .1 .0) (g .1 .1) (e .0) (e .1 .0) (e .1 .1)
 
 zero-rest-requires : tie.Need-zero-rest-requires Inv-loop μ-loop
-zero-rest-requires c κs =
-    let s = c .before .before .before .before .before .before .before .before .before .before .before .before in
-    let l = c .before .before .before .before .loop in
-    rest-long (s .args .way) (s .args .s) (source s) (output s) (s .pre .1 .1 .0) _ _ _ (l .j) (l .done) (l .inv)
+zero-rest-requires c κs = let k = rest-long (c .before .before .before .before .before .before .before .before .before .before .before .before .pre .1 .1 .0) (c .before .before .before .before .loop .inv) in omega arith
 
 same-length : tie.Need-same-length Inv-loop μ-loop
 same-length c = search needs
@@ -104,10 +95,8 @@ same-length-3 c = search needs
 
 returns : tie.Need-returns Inv-loop μ-loop
 returns c =
-    let s = c .before .before .before .before .before .before .before .before .before .before .before .before .before .before .before .before .before .before .before in
-    let l = c .before .before .before .before .before .before .before .before .before .before .before .loop in
     let e = c .before .before .before .before .before .before .zero-rest .ensures in
-    painting-end (s .args .way) (s .args .s) (source s) (output s) (s .pre .1 .1 .0) _ _ _ (l .j) (l .done) (l .inv) _ _ _ (c .before .before .before .before .before .before .before .before .before .before .loop-test .left) (e .0) (e .1 .0) (e .1 .1)
+    painting-end (c .before .before .before .before .before .before .before .before .before .before .before .before .before .before .before .before .before .before .before .pre .1 .1 .0) (c .before .before .before .before .before .before .before .before .before .before .before .loop .inv) (c .before .before .before .before .before .before .before .before .before .before .loop-test .left) (e .0) (e .1 .0) (e .1 .1)
 
 pub paint-spec : {M : Type 1} → statement M
 paint-spec =

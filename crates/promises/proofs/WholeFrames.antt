@@ -1,0 +1,120 @@
+-- A frame worked out whole, and wrong boxes that give themselves away at it: each follows from the definitions by computation.
+use mathlib.Core.Path.{_≡_, refl, ap}
+use mathlib.Core.Bool.{true}
+use mathlib.Core.List.{List, [], _∷_}
+use Prim.Native.Nat.{ℕ}
+use native.Mathlib.Omega.{arith}
+use lib.ListN.{getD}
+use Rattle.whole.specs.Whole.{half, clip, sample}
+use Rattle.sample.specs.Depth.{isDepth, areDepths, atMost}
+use Rattle.refusal.specs.Table.{first, at}
+use Rattle.refusal.specs.declared.Place.{Place}
+use Rattle.refusal.specs.declared.Refusal.{Refusal}
+use Rattle.plane.specs.First.{orElse, firstOf, placeIf, placeInRow, firstPlace, firstBad, badSample}
+use Rattle.plane.specs.Plane.{tab, cell, planeOf}
+use Rattle.plane.specs.Sizes.{sideOf, outside, someSide, pictureOutside, anyShort, sideShort, sizeRefusal}
+use Rattle.plane.specs.declared.size.Side.{Side}
+use Rattle.ycgco.specs.YCgCo.{losslessForward, losslessReverse}
+use Rattle.setting.specs.Label.{among, labelled}
+use Rattle.setting.specs.Matrix.{matrixOf}
+use Rattle.setting.specs.Agreement.{depthsServed}
+use Rattle.setting.specs.Refusals.{refusalOf, judged}
+use Rattle.setting.specs.declared.Setting.{Setting}
+use Rattle.pixel.specs.Pixel.{convert}
+use Rattle.pixel.specs.Source.{hasSource}
+use Rattle.pixel.specs.declared.Way.the-variants.{Forward}
+use Rattle.picture.specs.Picture.{Picture, picture}
+use Rattle.picture.specs.Verdict.{pictureVerdict}
+use Rattle.frame.specs.Frame.{frameAnswer, outPlane}
+use Rattle.frame.specs.declared.FrameAnswer.the-variants.{Done, Refused}
+use Rattle.image.specs.Image.{imageAnswer}
+use Rattle.image.specs.declared.ImageAnswer.the-variants.{Yes, NoSource}
+use Rattle.promises.proofs.Marked.{with}
+
+-- lossless code 8 at 8 bits
+abbrev setting : Setting
+setting = with 8 8 8 9 true true
+
+-- the three planes that a forward call leaves
+abbrev left : Setting → Picture → Side → List (List ℕ)
+left s a b = outPlane 0 Forward s a b ∷ outPlane 1 Forward s a b ∷ outPlane 2 Forward s a b ∷ []
+
+-- the rules' own frame: width 2, height 1, strides 3, and planes of four elements to be written
+abbrev source : Picture
+source = picture 2 1 3 (255 ∷ 0 ∷ 7 ∷ []) (0 ∷ 255 ∷ 7 ∷ []) (0 ∷ 0 ∷ 7 ∷ [])
+
+abbrev output : Side
+output = sideOf 3 4 4 4
+
+pub whole-answer : frameAnswer Forward setting source output ≡ Done
+unfolding frameAnswer pictureVerdict refusalOf judged first matrixOf labelled among depthsServed areDepths isDepth atMost sizeRefusal pictureOutside outside someSide sideShort anyShort badSample firstBad firstPlace placeInRow placeIf firstOf orElse
+whole-answer = refl
+
+pub whole-frame : left setting source output ≡ (63 ∷ 127 ∷ 0 ∷ 0 ∷ []) ∷ (129 ∷ 511 ∷ 0 ∷ 0 ∷ []) ∷ (511 ∷ 256 ∷ 0 ∷ 0 ∷ []) ∷ []
+unfolding outPlane pictureVerdict refusalOf judged first matrixOf labelled among depthsServed areDepths isDepth atMost sizeRefusal pictureOutside outside someSide sideShort anyShort badSample firstBad firstPlace placeInRow placeIf firstOf orElse planeOf tab cell convert losslessForward half sample
+whole-frame = refl
+
+-- the same with a matrix that is reserved: every element is zeroed
+pub refused-frame : left (with 17 8 8 9 true true) source output ≡ (0 ∷ 0 ∷ 0 ∷ 0 ∷ []) ∷ (0 ∷ 0 ∷ 0 ∷ 0 ∷ []) ∷ (0 ∷ 0 ∷ 0 ∷ 0 ∷ []) ∷ []
+unfolding outPlane pictureVerdict refusalOf judged first matrixOf labelled among depthsServed areDepths isDepth atMost sizeRefusal pictureOutside outside someSide sideShort anyShort badSample firstBad firstPlace placeInRow placeIf firstOf orElse tab
+refused-frame = refl
+
+-- red above green, one pixel wide
+abbrev tall : Picture
+tall = picture 1 2 1 (255 ∷ 0 ∷ []) (0 ∷ 255 ∷ []) (0 ∷ 0 ∷ [])
+
+pub tall-frame : left setting tall (sideOf 1 2 2 2) ≡ (63 ∷ 127 ∷ []) ∷ (129 ∷ 511 ∷ []) ∷ (511 ∷ 256 ∷ []) ∷ []
+unfolding outPlane pictureVerdict refusalOf judged first matrixOf labelled among depthsServed areDepths isDepth atMost sizeRefusal pictureOutside outside someSide sideShort anyShort badSample firstBad firstPlace placeInRow placeIf firstOf orElse planeOf tab cell convert losslessForward half sample
+tall-frame = refl
+
+-- one pixel that has an image source and one that has none: its blue would be negative
+abbrev one : ℕ → ℕ → ℕ → Picture
+one y cb cr = picture 1 1 1 (y ∷ []) (cb ∷ []) (cr ∷ [])
+
+pub red-has-source : imageAnswer setting (one 63 129 511) ≡ Yes
+unfolding imageAnswer pictureVerdict refusalOf judged first matrixOf labelled among depthsServed areDepths isDepth atMost sizeRefusal pictureOutside outside someSide sideShort anyShort badSample firstBad firstPlace placeInRow placeIf firstOf orElse hasSource convert losslessForward losslessReverse half clip sample
+red-has-source = refl
+
+pub none-has-source : imageAnswer setting (one 0 256 511) ≡ NoSource (at 0 0 0)
+unfolding imageAnswer pictureVerdict refusalOf judged first matrixOf labelled among depthsServed areDepths isDepth atMost sizeRefusal pictureOutside outside someSide sideShort anyShort badSample firstBad firstPlace placeInRow placeIf firstOf orElse hasSource convert losslessForward losslessReverse half clip sample
+none-has-source = refl
+
+-- ---- wrong boxes: what each would answer or leave there is not so
+
+-- element n of plane k
+abbrev element : ℕ → ℕ → List (List ℕ) → ℕ
+element k n planes = getD (getD planes k []) n 0
+
+-- refuses everything
+pub refuses-frames : (r : Refusal) → frameAnswer Forward setting source output ≡ Refused r → ⊥
+refuses-frames r e = let f = whole-answer in let z : _≡_ {A = ℕ} 0 1 = cc in omega arith
+
+-- one fixed colour: the same sample wherever the picture is
+pub fixed-colour : element 0 0 (left setting source output) ≡ element 0 1 (left setting source output) → ⊥
+fixed-colour e = let q = ap (element 0 0) whole-frame in let r = ap (element 0 1) whole-frame in omega (arith, e, q, r)
+
+-- planes copied straight through
+pub copied-through : element 0 0 (left setting source output) ≡ 255 → ⊥
+copied-through e = omega (arith, e, ap (element 0 0) whole-frame)
+
+-- writes nothing, or the picture area alone: a nine of the last client is still there
+pub nothing-written : element 0 0 (left setting source output) ≡ 9 → ⊥
+nothing-written e = omega (arith, e, ap (element 0 0) whole-frame)
+
+pub padding-kept : element 0 2 (left setting source output) ≡ 9 → ⊥
+padding-kept e = omega (arith, e, ap (element 0 2) whole-frame)
+
+-- leaves the planes alone on a refusal
+pub left-on-refusal : element 0 0 (left (with 17 8 8 9 true true) source output) ≡ 9 → ⊥
+left-on-refusal e = omega (arith, e, ap (element 0 0) refused-frame)
+
+-- converts the first row and blanks the others
+pub first-row-alone : element 0 1 (left setting tall (sideOf 1 2 2 2)) ≡ 0 → ⊥
+first-row-alone e = omega (arith, e, ap (element 0 1) tall-frame)
+
+-- an image check that always says yes, or never
+pub always-yes : imageAnswer setting (one 0 256 511) ≡ Yes → ⊥
+always-yes e = let f = none-has-source in let z : _≡_ {A = ℕ} 0 1 = cc in omega arith
+
+pub never-yes : (p : Place) → imageAnswer setting (one 63 129 511) ≡ NoSource p → ⊥
+never-yes p e = let f = red-has-source in let z : _≡_ {A = ℕ} 0 1 = cc in omega arith
