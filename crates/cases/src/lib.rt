@@ -1,5 +1,6 @@
 // Cases as lines of text, answered as the box answers them. docs/src/oracle says what a line means. What is written to standard output
 // is held to stored answers; no contract can speak of it, so the contracts here say where reading goes on.
+ghost use mathlib.Core.Path.{_≡_};
 ghost use Prim.Native.Nat.{_≤_, _<_};
 ghost use lib.ListN.{length};
 
@@ -20,6 +21,13 @@ fn line(text: &[u8], at: usize) -> usize
         b'I' => planes::image_line(text, at + 1),
         _ => pixels::line(text, at + 1, letter),
     }
+}
+
+// Room for the text of all cases.
+pub fn room() -> [u8; 1000000]
+    ensures { λ r. ⌜ 1000000 ≡ length r ⌝ }
+{
+    [0; 1000000]
 }
 
 // Every line.

@@ -35,8 +35,8 @@ fn meter_one(kind: SampleKind, s: Setting, v: u16) {
     }
 }
 
-fn meter_three(s: Setting, p: Pixel) {
-    match spot::meter_pixel(s, p) {
+fn meter_three(s: Setting, p0: u16, p1: u16, p2: u16) {
+    match spot::meter_pixel(s, Pixel { p0, p1, p2 }) {
         LevelsAnswer::Levels(l) => {
             let y = l.y;
             let cb = l.cb;
@@ -59,7 +59,7 @@ fn on_pixel(text: &[u8], at: usize, letter: u8) -> usize
         b'f' => say_pixel(one_pixel::forward_pixel(s, q)),
         b'r' => say_pixel(one_pixel::reverse_pixel(s, q)),
         b's' => say_source(one_pixel::source_pixel(s, q)),
-        _ => meter_three(s, q),
+        _ => meter_three(s, q.p0, q.p1, q.p2),
     }
     p.next
 }

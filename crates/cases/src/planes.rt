@@ -1,5 +1,6 @@
 // Cases on whole frames and on images.
 ghost use Prim.Native.Nat.{_≤_};
+ghost use lib.ListN.{length};
 use crate::read;
 use crate::say;
 use corkplover::frames;
@@ -18,21 +19,22 @@ fn size(n: u64) -> usize {
 }
 
 // A length that there is room for.
-fn length_of(n: u64) -> usize
-    ensures { λ r. ⌜ r ≤ 20000 ⌝ }
+fn length_of(n: u64, most: usize) -> usize
+    ensures { λ r. ⌜ r ≤ most ⌝ }
 {
-    if 20000 < n {
-        return 20000;
+    if most as u64 <= n {
+        return most;
     }
     n as usize
 }
 
 // A plane: its length and then its elements, as many as there is room for.
-fn plane(s: &[u8], at: usize, out: &mut [u16; 20000]) -> ReadPlane
-    ensures { λ r. ⌜ (at ≤ r .next) × (r .length ≤ 20000) ⌝ }
+fn plane(s: &[u8], at: usize, out: &mut [u16]) -> ReadPlane
+    ensures { λ r. ⌜ at ≤ r .next ⌝ }
+    ensures { λ r. ⌜ r .length ≤ length (now (out .entry)) ⌝ }
 {
     let count = read::number(s, at);
-    let length = length_of(count.value);
+    let length = length_of(count.value, out.len());
     let mut next = count.next;
     let mut i: usize = 0;
     while i < length {
@@ -46,10 +48,10 @@ fn plane(s: &[u8], at: usize, out: &mut [u16; 20000]) -> ReadPlane
 }
 
 // Old contents, which must never show.
-fn old_contents(fill: u64, out: &mut [u16; 20000]) {
+fn old_contents(fill: u64, out: &mut [u16]) {
     let mut v = fill % 65536;
     let mut i: usize = 0;
-    while i < 20000 {
+    while i < out.len() {
         out[i] = (v % 65536) as u16;
         v = (v + 7919) % 65536;
         i += 1;
@@ -121,9 +123,9 @@ fn convert_into(
     old_contents(fill.value, &mut b0);
     old_contents(fill.value, &mut b1);
     old_contents(fill.value, &mut b2);
-    let l0 = length_of(n0.value);
-    let l1 = length_of(n1.value);
-    let l2 = length_of(n2.value);
+    let l0 = length_of(n0.value, 20000);
+    let l1 = length_of(n1.value, 20000);
+    let l2 = length_of(n2.value, 20000);
     convert_and_say(
         forward,
         s,

@@ -43,18 +43,25 @@ pub fn pixel(p: Pixel) {
     words(b"\n");
 }
 
-fn wide(v: u16) -> u64 {
-    v as u64
+fn line_end() {
+    words(b"\n");
+}
+
+// A sample, after a blank where it is not the first.
+fn sample_of_plane(i: usize, v: u16) {
+    if 0 < i {
+        words(b" ");
+    }
+    io::print_decimal(STDOUT_FILENO, v as u64);
 }
 
 pub fn plane(p: &[u16]) {
-    for i in 0..p.len() {
-        if 0 < i {
-            words(b" ");
-        }
-        io::print_decimal(STDOUT_FILENO, wide(p[i]));
+    let mut i: usize = 0;
+    while i < p.len() {
+        sample_of_plane(i, p[i]);
+        i += 1;
     }
-    words(b"\n");
+    line_end();
 }
 
 pub fn label(l: Label) {

@@ -19,7 +19,7 @@ use Rattle.corkplover.specs.declared.spot.Reading.the-variants as meter
 use Rattle.corkplover.specs.declared.spot.LevelsAnswer.{LevelsAnswer}
 use Rattle.corkplover.specs.declared.spot.LevelsAnswer.the-variants as levels
 
--- four fields: 8 bits, 8 bits and three times 16 bits
+-- five fields: 8 bits, 8 bits and three times 16 bits
 abbrev pub packed : ℕ → ℕ → ℕ → ℕ → ℕ → ℕ
 packed number second a b c = number + second * 256 + a * 65536 + b * 4294967296 + c * 281474976710656
 

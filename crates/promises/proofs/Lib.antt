@@ -3,6 +3,7 @@ pub mod Marked
 pub mod Refusals
 pub mod Places
 pub mod Once
+pub mod ExportsOnce
 pub mod Lossless
 pub mod Accepted
 pub mod Fields

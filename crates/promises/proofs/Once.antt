@@ -24,7 +24,7 @@ use Rattle.corkplover.specs.declared.spot.Reading.{Reading}
 use Rattle.corkplover.specs.declared.spot.LevelsAnswer.{LevelsAnswer}
 use Rattle.promises.proofs.Frames.{withPlanes, Alike, same-answer, same-plane}
 
-once : {A : Type 0} {x a b : A} → a ≡ x → b ≡ x → a ≡ b
+pub once : {A : Type 0} {x a b : A} → a ≡ x → b ≡ x → a ≡ b
 once e f = e ∙ sym f
 
 pub primaries-label-once : (code : ℕ) (a b : Label) → a ≡ primariesLabel code → b ≡ primariesLabel code → a ≡ b

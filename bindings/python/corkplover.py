@@ -1,0 +1,223 @@
+"""Corkplover for Python: R, G, B into luma and chroma or back.
+
+The manual is include/corkplover.h; names, answers and refusals are the same here, and a refused call raises Refusal. What a
+caller owes the library cannot be got wrong here: numbers are tested before they are handed on, and every plane that the library
+sees is a buffer of this module's own, so that none overlaps another and every length is true.
+
+The shared object is the one that the variable CORKPLOVER_LIBRARY names, or else libcorkplover.so beside this file.
+"""
+import ctypes
+import os
+from array import array
+from collections import namedtuple
+
+Setting = namedtuple("Setting", "primaries transfer matrix rgb_depth y_depth c_depth rgb_full ycc_full")
+Levels = namedtuple("Levels", "y cb cr")
+
+ASSIGNED, UNSPECIFIED, RESERVED = range(3)
+
+_TEXTS = (
+    "accepted",
+    "the matrix code is reserved",
+    "the matrix code is 2, unspecified",
+    "the matrix code is known and not served",
+    "the primaries code is reserved",
+    "the transfer code is reserved",
+    "a depth is not served",
+    "depths or range flags do not agree with the matrix",
+    "the width, the height or a stride is not served",
+    "a plane is too short for the picture",
+    "a source sample is too large for its depth",
+    "the meter needs a luma matrix, the image check a lossless setting",
+)
+
+
+def refusal_text(number):
+    """The refusal in words."""
+    return _TEXTS[number] if 0 <= number < len(_TEXTS) else "not a refusal number"
+
+
+class Refusal(Exception):
+    """Why a call was refused. Plane, row and column are 0 but for number 10: there they name the first sample too large."""
+
+    def __init__(self, packed):
+        self.number, self.plane = packed & 0xFF, packed >> 8 & 0xFF
+        self.row, self.column = packed >> 16 & 0xFFFF, packed >> 32 & 0xFFFF
+        place = ": plane %d, row %d, column %d" % (self.plane, self.row, self.column) if self.number == 10 else ""
+        super().__init__("refused %d: %s%s" % (self.number, refusal_text(self.number), place))
+
+
+def _buffer(length):
+    return (ctypes.c_uint16 * _number(length, 48))()
+
+
+class Source:
+    """Three planes that share a stride, to be read: array('H'), or any one-dimensional buffer of that kind. They are copied."""
+
+    def __init__(self, planes, stride):
+        views = [memoryview(plane) for plane in planes]
+        if len(views) != 3 or any(view.format != "H" or view.ndim != 1 for view in views):
+            raise TypeError("a picture is three planes of 16-bit numbers, as array('H')")
+        self.stride = stride
+        self._buffers = [(ctypes.c_uint16 * len(view)).from_buffer_copy(view.tobytes()) for view in views]
+
+
+class Output:
+    """Three planes that share a stride, to be written; lengths are three numbers of elements."""
+
+    def __init__(self, lengths, stride):
+        self.stride = stride
+        self._buffers = [_buffer(length) for length in lengths]
+        if len(self._buffers) != 3:
+            raise TypeError("a picture has three planes")
+
+    @property
+    def planes(self):
+        """What the planes hold now, as three new array('H')."""
+        return [array("H", bytes(buffer)) for buffer in self._buffers]
+
+
+def _number(value, bits):
+    """The value, where it is a whole number of so many bits; ctypes alone would cut it down to them."""
+    if isinstance(value, bool) or not isinstance(value, int):
+        raise TypeError("%r is not a whole number" % (value,))
+    if not 0 <= value < 1 << bits:
+        raise ValueError("%d does not fit into %d bits" % (value, bits))
+    return value
+
+
+def _flag(value):
+    if not isinstance(value, bool):
+        raise TypeError("a range flag is True or False, and not %r" % (value,))
+    return value
+
+
+# PyDLL keeps the interpreter's lock, so that no other thread touches an Output while a call writes it.
+_library = ctypes.PyDLL(
+    os.environ.get("CORKPLOVER_LIBRARY") or os.path.join(os.path.dirname(os.path.abspath(__file__)), "libcorkplover.so")
+)
+_BYTE, _SAMPLE, _SIZE, _FLAG = ctypes.c_uint8, ctypes.c_uint16, ctypes.c_size_t, ctypes.c_bool
+_LEVEL = ctypes.POINTER(ctypes.c_float)
+_SETTING = [_BYTE] * 6 + [_FLAG] * 2
+_PLANES = [ctypes.c_void_p, _SIZE] * 3
+
+
+def _export(name, result, parameters):
+    function = getattr(_library, "corkplover_" + name)
+    function.restype, function.argtypes = result, parameters
+    return function
+
+
+# The library's compiler knows nothing of these lines; tools/test-clients compares them with its source and calls each.
+_labels = {kind: _export(kind + "_label", _BYTE, [_BYTE]) for kind in ("primaries", "transfer", "matrix")}
+_exports = {
+    name: _export(name, ctypes.c_uint64, _SETTING + more)
+    for name, more in {
+        "forward_pixel": [_SAMPLE] * 3,
+        "reverse_pixel": [_SAMPLE] * 3,
+        "forward_frame": [_SIZE] * 4 + _PLANES + _PLANES,
+        "reverse_frame": [_SIZE] * 4 + _PLANES + _PLANES,
+        "image_check": [_SIZE] * 3 + _PLANES,
+        "meter_y": [_SAMPLE, _LEVEL],
+        "meter_cb": [_SAMPLE, _LEVEL],
+        "meter_cr": [_SAMPLE, _LEVEL],
+        "meter_pixel": [_SAMPLE] * 3 + [_LEVEL] * 3,
+    }.items()
+}
+
+
+def _call(name, s, *more):
+    """The packed answer where it is accepted."""
+    s = Setting(*s)
+    codes = [_number(v, 8) for v in (s.primaries, s.transfer, s.matrix, s.rgb_depth, s.y_depth, s.c_depth)]
+    packed = _exports[name](*codes, _flag(s.rgb_full), _flag(s.ycc_full), *more)
+    if packed & 0xFF:
+        raise Refusal(packed)
+    return packed
+
+
+def _samples(pixel):
+    first, second, third = pixel
+    return [_number(v, 16) for v in (first, second, third)]
+
+
+def _sizes(*numbers):
+    return [_number(n, 64) for n in numbers]
+
+
+def _planes(picture):
+    return [word for buffer in picture._buffers for word in (ctypes.addressof(buffer), len(buffer))]
+
+
+def _pixel(name, s, pixel):
+    packed = _call(name, s, *_samples(pixel))
+    return packed >> 16 & 0xFFFF, packed >> 32 & 0xFFFF, packed >> 48
+
+
+def _frame(name, s, width, height, source, output):
+    if not isinstance(source, Source) or not isinstance(output, Output):
+        raise TypeError("a frame call takes a Source and an Output")
+    _call(name, s, *_sizes(width, height, source.stride, output.stride), *_planes(source), *_planes(output))
+
+
+def _reading(name, s, v):
+    level = ctypes.c_float()
+    _call(name, s, _number(v, 16), ctypes.byref(level))
+    return level.value
+
+
+def primaries_label(code):
+    return _labels["primaries"](_number(code, 8))
+
+
+def transfer_label(code):
+    return _labels["transfer"](_number(code, 8))
+
+
+def matrix_label(code):
+    return _labels["matrix"](_number(code, 8))
+
+
+def forward_pixel(s, rgb):
+    """Y, Cb and Cr of an RGB pixel."""
+    return _pixel("forward_pixel", s, rgb)
+
+
+def reverse_pixel(s, ycc):
+    """R, G and B of a Y, Cb, Cr pixel."""
+    return _pixel("reverse_pixel", s, ycc)
+
+
+def forward_frame(s, width, height, source, output):
+    """Converts a frame. Nothing that the output held before is left: the picture and zeros, or where refused zeros alone."""
+    _frame("forward_frame", s, width, height, source, output)
+
+
+def reverse_frame(s, width, height, source, output):
+    _frame("reverse_frame", s, width, height, source, output)
+
+
+def image_check(s, width, height, ycc):
+    """None if some RGB picture converts to this one; else row and column of the first pixel without a source."""
+    if not isinstance(ycc, Source):
+        raise TypeError("an image check takes a Source")
+    packed = _call("image_check", s, *_sizes(width, height, ycc.stride), *_planes(ycc))
+    return (packed >> 16 & 0xFFFF, packed >> 32 & 0xFFFF) if packed >> 8 & 0xFF else None
+
+
+def meter_y(s, y):
+    return _reading("meter_y", s, y)
+
+
+def meter_cb(s, cb):
+    return _reading("meter_cb", s, cb)
+
+
+def meter_cr(s, cr):
+    return _reading("meter_cr", s, cr)
+
+
+def meter_pixel(s, ycc):
+    y, cb, cr = ctypes.c_float(), ctypes.c_float(), ctypes.c_float()
+    _call("meter_pixel", s, *_samples(ycc), ctypes.byref(y), ctypes.byref(cb), ctypes.byref(cr))
+    return Levels(y.value, cb.value, cr.value)

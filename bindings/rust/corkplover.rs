@@ -1,0 +1,199 @@
+//! Corkplover for Rust: R, G, B into luma and chroma or back. The manual is `include/corkplover.h`; names, answers and refusals are
+//! the same here. Whatever a caller owes the library is a matter of types here: slices know their lengths, and an output plane is
+//! borrowed for writing, so that it overlaps nothing.
+//!
+//! Compile as a crate of its own, with the folder of libcorkplover.a in the search path:
+//! `rustc -O --edition 2021 --crate-type rlib -L native=FOLDER corkplover.rs`
+
+#[derive(Clone, Copy, Debug, PartialEq, Eq)]
+pub struct Setting {
+    pub primaries: u8,
+    pub transfer: u8,
+    pub matrix: u8,
+    pub rgb_depth: u8,
+    pub y_depth: u8,
+    pub c_depth: u8,
+    pub rgb_full: bool,
+    pub ycc_full: bool,
+}
+
+/// Three planes that share a stride, to be read.
+#[derive(Clone, Copy, Debug)]
+pub struct Source<'a> {
+    pub planes: [&'a [u16]; 3],
+    pub stride: usize,
+}
+
+/// Three planes that share a stride, to be written.
+#[derive(Debug)]
+pub struct Output<'a> {
+    pub planes: [&'a mut [u16]; 3],
+    pub stride: usize,
+}
+
+#[derive(Clone, Copy, Debug, PartialEq, Eq)]
+pub enum Label {
+    Assigned,
+    Unspecified,
+    Reserved,
+}
+
+/// Why a call was refused. Plane, row and column are 0 but for number 10, where they name the first sample that is too large.
+#[derive(Clone, Copy, Debug, PartialEq, Eq)]
+pub struct Refusal {
+    pub number: u8,
+    pub plane: u8,
+    pub row: u16,
+    pub column: u16,
+}
+
+#[derive(Clone, Copy, Debug, PartialEq)]
+pub struct Levels {
+    pub y: f32,
+    pub cb: f32,
+    pub cr: f32,
+}
+
+const TEXTS: [&str; 12] = [
+    "accepted",
+    "the matrix code is reserved",
+    "the matrix code is 2, unspecified",
+    "the matrix code is known and not served",
+    "the primaries code is reserved",
+    "the transfer code is reserved",
+    "a depth is not served",
+    "depths or range flags do not agree with the matrix",
+    "the width, the height or a stride is not served",
+    "a plane is too short for the picture",
+    "a source sample is too large for its depth",
+    "the meter needs a luma matrix, the image check a lossless setting",
+];
+
+/// The refusal in words.
+pub fn refusal_text(number: u8) -> &'static str {
+    TEXTS.get(usize::from(number)).copied().unwrap_or("not a refusal number")
+}
+
+// The library's compiler knows nothing of these lines; tools/test-clients compares them with its source and calls each.
+macro_rules! exports {
+    ($($name:ident($($more:ident: $kind:ty),*);)*) => {
+        #[link(name = "corkplover", kind = "static")]
+        extern "C" {
+            fn corkplover_primaries_label(code: u8) -> u8;
+            fn corkplover_transfer_label(code: u8) -> u8;
+            fn corkplover_matrix_label(code: u8) -> u8;
+            $(fn $name(primaries: u8, transfer: u8, matrix: u8, rgb_depth: u8, y_depth: u8, c_depth: u8, rgb_full: bool,
+                ycc_full: bool, $($more: $kind),*) -> u64;)*
+        }
+    };
+}
+
+exports! {
+    corkplover_forward_pixel(r: u16, g: u16, b: u16);
+    corkplover_reverse_pixel(y: u16, cb: u16, cr: u16);
+    corkplover_forward_frame(width: usize, height: usize, source_stride: usize, output_stride: usize, r: *const u16, rs: usize,
+        g: *const u16, gs: usize, b: *const u16, bs: usize, y: *mut u16, ys: usize, cb: *mut u16, cbs: usize, cr: *mut u16, crs: usize);
+    corkplover_reverse_frame(width: usize, height: usize, source_stride: usize, output_stride: usize, y: *const u16, ys: usize,
+        cb: *const u16, cbs: usize, cr: *const u16, crs: usize, r: *mut u16, rs: usize, g: *mut u16, gs: usize, b: *mut u16, bs: usize);
+    corkplover_image_check(width: usize, height: usize, stride: usize, y: *const u16, ys: usize, cb: *const u16, cbs: usize,
+        cr: *const u16, crs: usize);
+    corkplover_meter_y(y: u16, level: *mut f32);
+    corkplover_meter_cb(cb: u16, level: *mut f32);
+    corkplover_meter_cr(cr: u16, level: *mut f32);
+    corkplover_meter_pixel(y: u16, cb: u16, cr: u16, y_level: *mut f32, cb_level: *mut f32, cr_level: *mut f32);
+}
+
+/// Calls an export with the setting's eight numbers before the others. The first form hands on planes, each as its pointer and its own
+/// length. Safe, since every pointer is that of a slice or a variable which stays borrowed while the call lasts.
+macro_rules! call {
+    ($export:ident, $s:expr, ($($size:expr),*), [$($source:ident),*], [$($output:ident),*]) => {
+        call!($export, $s, $($size,)* $($source.as_ptr(), $source.len(),)* $($output.as_mut_ptr(), $output.len(),)*)
+    };
+    ($export:ident, $s:expr, $($more:expr),* $(,)?) => {
+        unsafe {
+            $export($s.primaries, $s.transfer, $s.matrix, $s.rgb_depth, $s.y_depth, $s.c_depth, $s.rgb_full, $s.ycc_full, $($more),*)
+        }
+    };
+}
+
+/// The packed answer where it is accepted.
+fn accepted(packed: u64) -> Result<u64, Refusal> {
+    match packed as u8 {
+        0 => Ok(packed),
+        number => Err(Refusal { number, plane: (packed >> 8) as u8, row: (packed >> 16) as u16, column: (packed >> 32) as u16 }),
+    }
+}
+
+fn samples(packed: u64) -> [u16; 3] {
+    [(packed >> 16) as u16, (packed >> 32) as u16, (packed >> 48) as u16]
+}
+
+fn label(number: u8) -> Label {
+    match number {
+        0 => Label::Assigned,
+        1 => Label::Unspecified,
+        _ => Label::Reserved,
+    }
+}
+
+pub fn primaries_label(code: u8) -> Label {
+    label(unsafe { corkplover_primaries_label(code) })
+}
+
+pub fn transfer_label(code: u8) -> Label {
+    label(unsafe { corkplover_transfer_label(code) })
+}
+
+pub fn matrix_label(code: u8) -> Label {
+    label(unsafe { corkplover_matrix_label(code) })
+}
+
+/// Y, Cb and Cr of an RGB pixel.
+pub fn forward_pixel(s: &Setting, [r, g, b]: [u16; 3]) -> Result<[u16; 3], Refusal> {
+    accepted(call!(corkplover_forward_pixel, s, r, g, b)).map(samples)
+}
+
+/// R, G and B of a Y, Cb, Cr pixel.
+pub fn reverse_pixel(s: &Setting, [y, cb, cr]: [u16; 3]) -> Result<[u16; 3], Refusal> {
+    accepted(call!(corkplover_reverse_pixel, s, y, cb, cr)).map(samples)
+}
+
+/// Converts a frame. Nothing that the output held before is left: accepted, it has the picture and zeros; refused, zeros alone.
+pub fn forward_frame(s: &Setting, width: usize, height: usize, source: Source, output: &mut Output) -> Result<(), Refusal> {
+    let ([r, g, b], [y, cb, cr]) = (source.planes, &mut output.planes);
+    accepted(call!(corkplover_forward_frame, s, (width, height, source.stride, output.stride), [r, g, b], [y, cb, cr])).map(|_| ())
+}
+
+pub fn reverse_frame(s: &Setting, width: usize, height: usize, source: Source, output: &mut Output) -> Result<(), Refusal> {
+    let ([y, cb, cr], [r, g, b]) = (source.planes, &mut output.planes);
+    accepted(call!(corkplover_reverse_frame, s, (width, height, source.stride, output.stride), [y, cb, cr], [r, g, b])).map(|_| ())
+}
+
+/// None if some RGB picture converts to this one; else row and column of the first pixel without a source.
+pub fn image_check(s: &Setting, width: usize, height: usize, ycc: Source) -> Result<Option<(u16, u16)>, Refusal> {
+    let [y, cb, cr] = ycc.planes;
+    let packed = accepted(call!(corkplover_image_check, s, (width, height, ycc.stride), [y, cb, cr], []))?;
+    let found = (packed >> 8) as u8 == 0;
+    Ok(if found { None } else { Some(((packed >> 16) as u16, (packed >> 32) as u16)) })
+}
+
+pub fn meter_y(s: &Setting, y: u16) -> Result<f32, Refusal> {
+    let mut level = 0.0;
+    accepted(call!(corkplover_meter_y, s, y, &mut level)).map(|_| level)
+}
+
+pub fn meter_cb(s: &Setting, cb: u16) -> Result<f32, Refusal> {
+    let mut level = 0.0;
+    accepted(call!(corkplover_meter_cb, s, cb, &mut level)).map(|_| level)
+}
+
+pub fn meter_cr(s: &Setting, cr: u16) -> Result<f32, Refusal> {
+    let mut level = 0.0;
+    accepted(call!(corkplover_meter_cr, s, cr, &mut level)).map(|_| level)
+}
+
+pub fn meter_pixel(s: &Setting, [y, cb, cr]: [u16; 3]) -> Result<Levels, Refusal> {
+    let mut levels = Levels { y: 0.0, cb: 0.0, cr: 0.0 };
+    let packed = call!(corkplover_meter_pixel, s, y, cb, cr, &mut levels.y, &mut levels.cb, &mut levels.cr);
+    accepted(packed).map(|_| levels)
+}

@@ -1,0 +1,2 @@
+-- Laws of the desk.
+pub mod LevelLaws

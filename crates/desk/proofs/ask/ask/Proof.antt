@@ -1,0 +1,51 @@
+-- `desk::ask::ask` meets its contract: one arm for each kind of request.
+use mathlib.Core.Path.{ap}
+use Rattle.desk.specs.Answers.{answerTo}
+use Rattle.desk.specs.declared.ask.Answer.the-variants.{Label}
+use borrow.Author.Needs.{needs}
+use Rattle.desk.proofs.ask.ask.Statement.{statement}
+use Rattle.desk.proofs.ask.ask.Tie as tie
+
+enum-known-request : tie.Need-enum-known-request
+enum-known-request c = search needs
+
+ask-pixel-requires : tie.Need-ask-pixel-requires
+ask-pixel-requires c κs = search needs
+
+enum-known-request-2 : tie.Need-enum-known-request-2
+enum-known-request-2 c = search needs
+
+ask-sample-requires : tie.Need-ask-sample-requires
+ask-sample-requires c κs = search needs
+
+enum-known-request-3 : tie.Need-enum-known-request-3
+enum-known-request-3 c = search needs
+
+label-of-requires : tie.Need-label-of-requires
+label-of-requires c κs = search needs
+
+returns : tie.Need-returns
+unfolding answerTo
+returns c = rw (c .before .before .request .given .1) (c .ask-pixel .ensures)
+
+returns-2 : tie.Need-returns-2
+unfolding answerTo
+returns-2 c = rw (c .before .before .request2 .given .1) (c .ask-sample .ensures)
+
+returns-3 : tie.Need-returns-3
+unfolding answerTo
+returns-3 c = rw (c .before .before .request3 .given .1) (ap Label (c .label-of .ensures))
+
+pub ask-spec : {M : Type 1} → statement M
+ask-spec =
+    tie.close
+    (tie.spec
+    enum-known-request
+    ask-pixel-requires
+    enum-known-request-2
+    ask-sample-requires
+    enum-known-request-3
+    label-of-requires
+    returns
+    returns-2
+    returns-3)

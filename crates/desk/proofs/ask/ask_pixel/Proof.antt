@@ -1,0 +1,76 @@
+-- `desk::ask::ask_pixel` meets its contract: each call goes to its entry point, and the levels of a pixel are numbers.
+use mathlib.Core.Path.{sym, ap, _∙_, subst}
+use Rattle.desk.specs.Answers.{NumbersIn, ofPixel, ofSource, ofLevels}
+use Rattle.desk.proofs.LevelLaws.{levels-numbers}
+use borrow.Author.Needs.{needs}
+use Rattle.desk.proofs.ask.ask_pixel.Statement.{statement}
+use Rattle.desk.proofs.ask.ask_pixel.Tie as tie
+
+enum-told : tie.Need-enum-told
+enum-told c = search needs
+
+forward-pixel-requires : tie.Need-forward-pixel-requires
+forward-pixel-requires c κs = search needs
+
+of-pixel-requires : tie.Need-of-pixel-requires
+of-pixel-requires c κs = search needs
+
+enum-told-2 : tie.Need-enum-told-2
+enum-told-2 c = search needs
+
+reverse-pixel-requires : tie.Need-reverse-pixel-requires
+reverse-pixel-requires c κs = search needs
+
+of-pixel-requires-2 : tie.Need-of-pixel-requires-2
+of-pixel-requires-2 c κs = search needs
+
+enum-told-3 : tie.Need-enum-told-3
+enum-told-3 c = search needs
+
+meter-pixel-requires : tie.Need-meter-pixel-requires
+meter-pixel-requires c κs = search needs
+
+of-levels-requires : tie.Need-of-levels-requires
+of-levels-requires c κs = subst NumbersIn (sym (c .meter-pixel .ensures)) (levels-numbers _ _)
+
+enum-told-4 : tie.Need-enum-told-4
+enum-told-4 c = search needs
+
+source-pixel-requires : tie.Need-source-pixel-requires
+source-pixel-requires c κs = search needs
+
+of-source-requires : tie.Need-of-source-requires
+of-source-requires c κs = search needs
+
+returns : tie.Need-returns
+returns c = rw (c .before .before .enum-told .given .1) (c .of-pixel .ensures ∙ ap ofPixel (c .before .forward-pixel .ensures))
+
+returns-2 : tie.Need-returns-2
+returns-2 c = rw (c .before .before .enum-told2 .given .1) (c .of-pixel2 .ensures ∙ ap ofPixel (c .before .reverse-pixel .ensures))
+
+returns-3 : tie.Need-returns-3
+returns-3 c = rw (c .before .before .enum-told3 .given .1) (c .of-levels .ensures ∙ ap ofLevels (c .before .meter-pixel .ensures))
+
+returns-4 : tie.Need-returns-4
+returns-4 c = rw (c .before .before .enum-told4 .given .1) (c .of-source .ensures ∙ ap ofSource (c .before .source-pixel .ensures))
+
+pub ask-pixel-spec : {M : Type 1} → statement M
+ask-pixel-spec =
+    tie.close
+    (tie.spec
+    enum-told
+    forward-pixel-requires
+    of-pixel-requires
+    enum-told-2
+    reverse-pixel-requires
+    of-pixel-requires-2
+    enum-told-3
+    meter-pixel-requires
+    of-levels-requires
+    enum-told-4
+    source-pixel-requires
+    of-source-requires
+    returns
+    returns-2
+    returns-3
+    returns-4)

@@ -1,0 +1,20 @@
+-- `desk::ask::ask_sample` meets its contract: the level of a sample is a number.
+use mathlib.Core.Path.{sym, ap, _∙_, subst}
+use native.Mathlib.Omega.{arith}
+use Rattle.desk.specs.Answers.{NumberIn, ofReading}
+use Rattle.desk.proofs.LevelLaws.{reading-number}
+use borrow.Author.Needs.{needs}
+use Rattle.desk.proofs.ask.ask_sample.Statement.{statement}
+use Rattle.desk.proofs.ask.ask_sample.Tie as tie
+
+meter-sample-requires : tie.Need-meter-sample-requires
+meter-sample-requires c κs = search needs
+
+of-reading-requires : tie.Need-of-reading-requires
+of-reading-requires c κs = subst NumberIn (sym (c .meter-sample .ensures)) (reading-number _ _ _ (omega arith))
+
+returns : tie.Need-returns
+returns c = c .of-reading .ensures ∙ ap ofReading (c .before .meter-sample .ensures)
+
+pub ask-sample-spec : {M : Type 1} → statement M
+ask-sample-spec = tie.close (tie.spec meter-sample-requires of-reading-requires returns)

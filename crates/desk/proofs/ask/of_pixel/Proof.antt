@@ -1,0 +1,19 @@
+-- `desk::ask::of_pixel` meets its contract: one arm for each case.
+use borrow.Author.Needs.{needs}
+use Rattle.desk.proofs.ask.of_pixel.Statement.{statement}
+use Rattle.desk.proofs.ask.of_pixel.Tie as tie
+
+enum-known-a : tie.Need-enum-known-a
+enum-known-a c = search needs
+
+enum-known-a-2 : tie.Need-enum-known-a-2
+enum-known-a-2 c = search needs
+
+returns : tie.Need-returns
+returns c = rw (c .before .a .given .1)
+
+returns-2 : tie.Need-returns-2
+returns-2 c = rw (c .before .a2 .given .1)
+
+pub of-pixel-spec : {M : Type 1} → statement M
+of-pixel-spec = tie.close (tie.spec enum-known-a enum-known-a-2 returns returns-2)

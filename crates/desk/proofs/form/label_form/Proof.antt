@@ -1,0 +1,42 @@
+-- `desk::form::label_form` meets its contract: the tests are those of the definition.
+use borrow.Author.Tests.{lt-ltb, le-ltb, eq-eqb, ne-eqb}
+use Rattle.desk.specs.Form.{labelForm}
+use borrow.Author.Needs.{needs}
+use Rattle.desk.proofs.form.label_form.Statement.{statement}
+use Rattle.desk.proofs.form.label_form.Tie as tie
+
+code-at-requires : tie.Need-code-at-requires
+code-at-requires c κs = search needs
+
+add-end-at : tie.Need-add-end-at
+add-end-at c = search needs
+
+end-at-requires : tie.Need-end-at-requires
+end-at-requires c κs = search needs
+
+earlier-requires : tie.Need-earlier-requires
+earlier-requires c κs = search needs
+
+returns : tie.Need-returns
+unfolding labelForm
+returns c = rw (← c .before .before .before .code-at .ensures, ← c .before .before .end-at .ensures, ← c .before .earlier .ensures, eq-eqb _ _ (c .if1 .taken))
+
+returns-2 : tie.Need-returns-2
+unfolding labelForm
+returns-2 c = rw (← c .before .before .before .before .code-at .ensures, ← c .before .before .before .end-at .ensures, ← c .before .before .earlier .ensures, ne-eqb _ _ (c .before .if1 .left), eq-eqb _ _ (c .if2 .taken))
+
+returns-3 : tie.Need-returns-3
+unfolding labelForm
+returns-3 c = rw (← c .before .before .before .before .code-at .ensures, ← c .before .before .before .end-at .ensures, ← c .before .before .earlier .ensures, ne-eqb _ _ (c .before .if1 .left), ne-eqb _ _ (c .if2 .left))
+
+pub label-form-spec : {M : Type 1} → statement M
+label-form-spec =
+    tie.close
+    (tie.spec
+    code-at-requires
+    add-end-at
+    end-at-requires
+    earlier-requires
+    returns
+    returns-2
+    returns-3)

@@ -1,0 +1,23 @@
+-- `desk::form::sample_at` meets its contract: one arm for each case.
+use borrow.Author.Needs.{needs}
+use Rattle.desk.proofs.form.sample_at.Statement.{statement}
+use Rattle.desk.proofs.form.sample_at.Tie as tie
+
+number-at-requires : tie.Need-number-at-requires
+number-at-requires c κs = search needs
+
+enum-known-value : tie.Need-enum-known-value
+enum-known-value c = search needs
+
+enum-told : tie.Need-enum-told
+enum-told c = search needs
+
+returns : tie.Need-returns
+returns c = rw (← c .before .before .before .number-at .ensures, c .before .value .given .1)
+
+returns-2 : tie.Need-returns-2
+returns-2 c = rw (← c .before .before .number-at .ensures, c .enum-told .given .1)
+
+pub sample-at-spec : {M : Type 1} → statement M
+sample-at-spec =
+    tie.close (tie.spec number-at-requires enum-known-value enum-told returns returns-2)

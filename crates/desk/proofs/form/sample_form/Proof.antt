@@ -1,0 +1,77 @@
+-- `desk::form::sample_form` meets its contract: the tests are those of the definition.
+use Prim.Native.Nat.{_≤_}
+use native.Mathlib.Omega.{arith}
+use borrow.Author.Tests.{lt-ltb, le-ltb, eq-eqb, ne-eqb}
+use Rattle.meter.specs.Level.{planeOf}
+use Rattle.meter.specs.declared.SampleKind.{SampleKind}
+use Rattle.meter.specs.declared.SampleKind.the-variants.{Y, Cb, Cr}
+use Rattle.desk.specs.Form.{sampleForm}
+use borrow.Author.Needs.{needs}
+use Rattle.desk.proofs.form.sample_form.Statement.{statement}
+use Rattle.desk.proofs.form.sample_form.Tie as tie
+
+last-plane : (k : SampleKind) → planeOf k ≤ 2
+last-plane Y = omega arith
+last-plane Cb = omega arith
+last-plane Cr = omega arith
+
+setting-at-requires : tie.Need-setting-at-requires
+setting-at-requires c κs = search needs
+
+sample-at-requires : tie.Need-sample-at-requires
+sample-at-requires c κs = search needs
+
+earlier-requires : tie.Need-earlier-requires
+earlier-requires c κs = search needs
+
+add-end-at : tie.Need-add-end-at
+add-end-at c = search needs
+
+end-at-requires : tie.Need-end-at-requires
+end-at-requires c κs = search needs
+
+earlier-requires-2 : tie.Need-earlier-requires-2
+earlier-requires-2 c κs = search needs
+
+returns : tie.Need-returns
+unfolding sampleForm
+returns c = rw (← c .before .before .before .before .before .before .setting-at .ensures, ← c .before .before .before .before .before .sample-at .ensures, ← c .before .before .before .before .earlier .ensures, ← c .before .before .before .end-at .ensures, ← c .before .before .earlier2 .ensures, eq-eqb _ _ (c .before .if1 .taken))
+
+returns-2 : tie.Need-returns-2
+unfolding sampleForm
+returns-2 c = rw (← c .before .before .before .before .before .before .setting-at .ensures, ← c .before .before .before .before .before .sample-at .ensures, ← c .before .before .before .before .earlier .ensures, ← c .before .before .before .end-at .ensures, ← c .before .before .earlier2 .ensures, ne-eqb _ _ (c .before .if1 .left), lt-ltb _ _ (c .if2 .taken))
+
+add-expected : tie.Need-add-expected
+add-expected c = search needs
+
+plane-of-requires : tie.Need-plane-of-requires
+plane-of-requires c κs = search needs
+
+add-expected-2 : tie.Need-add-expected-2
+add-expected-2 c = let h = last-plane (c .before .before .before .before .before .before .before .before .before .before .args .kind) in omega (arith, c .plane-of .ensures)
+
+returns-3 : tie.Need-returns-3
+unfolding sampleForm
+returns-3 c = rw (← c .before .before .before .before .before .before .before .before .setting-at .ensures, ← c .before .before .before .before .before .before .before .sample-at .ensures, ← c .before .before .before .before .before .before .earlier .ensures, ← c .before .before .before .before .before .end-at .ensures, ← c .before .before .before .before .earlier2 .ensures, ne-eqb _ _ (c .before .before .before .if1 .left), le-ltb _ _ (c .before .before .if2 .left), eq-eqb _ _ (c .before .if3 .taken), c .plane-of .ensures)
+
+returns-4 : tie.Need-returns-4
+unfolding sampleForm
+returns-4 c = rw (← c .before .before .before .before .before .before .before .setting-at .ensures, ← c .before .before .before .before .before .before .sample-at .ensures, ← c .before .before .before .before .before .earlier .ensures, ← c .before .before .before .before .end-at .ensures, ← c .before .before .before .earlier2 .ensures, ne-eqb _ _ (c .before .before .if1 .left), le-ltb _ _ (c .before .if2 .left), ne-eqb _ _ (c .if3 .left))
+
+pub sample-form-spec : {M : Type 1} → statement M
+sample-form-spec =
+    tie.close
+    (tie.spec
+    setting-at-requires
+    sample-at-requires
+    earlier-requires
+    add-end-at
+    end-at-requires
+    earlier-requires-2
+    returns
+    returns-2
+    add-expected
+    plane-of-requires
+    add-expected-2
+    returns-3
+    returns-4)

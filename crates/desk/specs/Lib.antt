@@ -1,0 +1,3 @@
+-- Requests in words, and the box's answers.
+pub mod Form
+pub mod Answers

@@ -1,0 +1,108 @@
+// Every request is passed on to its entry point, and the answers come back as one type. A level is handed on as its bits.
+ghost use mathlib.Core.Path.{_≡_};
+ghost use Rattle.corkplover.specs.Answers.{reading};
+ghost use Rattle.desk.specs.Answers.{NumberIn, NumbersIn, ofPixel, ofSource, ofReading, ofLevels, askPixel, labelOf, answerTo};
+use crate::CodeKind;
+use crate::Request;
+use corkplover::labels;
+use corkplover::one_pixel;
+use corkplover::one_pixel::PixelAnswer;
+use corkplover::one_pixel::SourceAnswer;
+use corkplover::spot;
+use corkplover::spot::LevelsAnswer;
+use corkplover::spot::Reading;
+use meter::SampleKind;
+use refusal::Refusal;
+use sample::Pixel;
+use setting::Call;
+use setting::Setting;
+use setting::label::Label;
+
+pub enum Answer {
+    Samples(Pixel),
+    Source(bool),
+    Level(u32),
+    Levels(u32, u32, u32),
+    Label(Label),
+    Refused(Refusal),
+}
+
+fn of_pixel(a: PixelAnswer) -> Answer
+    ensures { λ r. ⌜ r ≡ ofPixel a ⌝ }
+{
+    match a {
+        PixelAnswer::Converted(p) => Answer::Samples(p),
+        PixelAnswer::Refused(refusal) => Answer::Refused(refusal),
+    }
+}
+
+fn of_source(a: SourceAnswer) -> Answer
+    ensures { λ r. ⌜ r ≡ ofSource a ⌝ }
+{
+    match a {
+        SourceAnswer::Yes => Answer::Source(true),
+        SourceAnswer::NoSource => Answer::Source(false),
+        SourceAnswer::Refused(refusal) => Answer::Refused(refusal),
+    }
+}
+
+fn of_reading(a: Reading) -> Answer
+    requires { ⌜ NumberIn a ⌝ }
+    ensures { λ r. ⌜ r ≡ ofReading a ⌝ }
+{
+    match a {
+        Reading::Level(x) => Answer::Level(f32::to_bits(x)),
+        Reading::Refused(refusal) => Answer::Refused(refusal),
+    }
+}
+
+fn of_levels(a: LevelsAnswer) -> Answer
+    requires { ⌜ NumbersIn a ⌝ }
+    ensures { λ r. ⌜ r ≡ ofLevels a ⌝ }
+{
+    match a {
+        LevelsAnswer::Levels(l) => Answer::Levels(
+            f32::to_bits(l.y),
+            f32::to_bits(l.cb),
+            f32::to_bits(l.cr),
+        ),
+        LevelsAnswer::Refused(refusal) => Answer::Refused(refusal),
+    }
+}
+
+fn ask_pixel(call: Call, s: Setting, p: Pixel) -> Answer
+    ensures { λ r. ⌜ r ≡ askPixel call s p ⌝ }
+{
+    match call {
+        Call::Forward => of_pixel(one_pixel::forward_pixel(s, p)),
+        Call::Reverse => of_pixel(one_pixel::reverse_pixel(s, p)),
+        Call::Meter => of_levels(spot::meter_pixel(s, p)),
+        Call::ImageCheck => of_source(one_pixel::source_pixel(s, p)),
+    }
+}
+
+fn ask_sample(kind: SampleKind, s: Setting, v: u16) -> Answer
+    ensures { λ r. ⌜ r ≡ ofReading (reading kind s v) ⌝ }
+{
+    of_reading(spot::meter_sample(kind, s, v))
+}
+
+fn label_of(kind: CodeKind, code: u8) -> Label
+    ensures { λ r. ⌜ r ≡ labelOf kind code ⌝ }
+{
+    match kind {
+        CodeKind::Primaries => labels::primaries_label(code),
+        CodeKind::Transfer => labels::transfer_label(code),
+        CodeKind::Matrix => labels::matrix_label(code),
+    }
+}
+
+pub fn ask(request: Request) -> Answer
+    ensures { λ r. ⌜ r ≡ answerTo request ⌝ }
+{
+    match request {
+        Request::Pixel(call, s, p) => ask_pixel(call, s, p),
+        Request::Sample(kind, s, v) => ask_sample(kind, s, v),
+        Request::Label(kind, code) => Answer::Label(label_of(kind, code)),
+    }
+}

@@ -1,0 +1,158 @@
+-- Where a word ends, the rest of a text begins: so words found one after the other are the words of the whole.
+use mathlib.Core.Path.{_≡_, refl, sym, ap, _∙_, subst}
+use mathlib.Core.Bool.{Bool, true, false, cond, _&&_}
+use mathlib.Core.List.{List, [], _∷_}
+use Prim.Native.Nat.{ℕ, zero, suc, _+_, _-_, _≤_, _<_}
+use native.Mathlib.Decide.{decLt}
+use native.Mathlib.Nat.{add-zero, sub-self}
+use native.Mathlib.Numerals.{add-one}
+use native.Mathlib.Omega.{arith}
+use borrow.Author.Tests.{eq-eqb, ne-eqb, eqb-true, lt-ltb, le-ltb}
+use lib.Dec.{eqb, ltb, eqb-refl}
+use lib.ListN.{length, getD, take, drop, length-drop, drop-of-length-le, List·getD-eq-default}
+use lib.Seq.{drop-cons, drop-drop, getD-drop}
+use Rattle.text.specs.Words.{begun, split, wordOf, before, endOf, sameWord, indexIn, Spans}
+
+-- the bytes before the first gap, one byte at a time
+before-gap : (gap b : ℕ) (s : List ℕ) → b ≡ gap → before gap (b ∷ s) ≡ 0
+unfolding before
+before-gap gap b s e = rw (eq-eqb b gap e)
+
+before-other : (gap b : ℕ) (s : List ℕ) → (b ≡ gap → ⊥) → before gap (b ∷ s) ≡ suc (before gap s)
+unfolding before
+before-other gap b s f = rw (ne-eqb b gap f)
+
+before-most : (gap : ℕ) (s : List ℕ) → before gap s ≤ length s
+unfolding before
+before-most gap [] = omega arith
+before-most gap (b ∷ s) = go (eqb b gap) (before-most gap s)
+  where
+    go : (t : Bool) → before gap s ≤ length s → cond t 0 (suc (before gap s)) ≤ length (b ∷ s)
+    go true h = omega arith
+    go false h = omega arith
+
+module _ (gap : ℕ) (s : List ℕ) where
+  pub end-here : (i : ℕ) → i < length s → getD s i 0 ≡ gap → endOf gap s i ≡ i
+  end-here i h e = let z = before-gap gap (getD s i 0) (drop (suc i) s) e in rw (drop-cons s i 0 h) (omega arith)
+
+  pub end-on : (i : ℕ) → i < length s → (getD s i 0 ≡ gap → ⊥) → endOf gap s i ≡ endOf gap s (i + 1)
+  end-on i h f =
+      let z = before-other gap (getD s i 0) (drop (suc i) s) f in
+      rw (drop-cons s i 0 h, add-one i) (omega arith)
+
+  pub end-over : (i : ℕ) → length s ≤ i → endOf gap s i ≡ i
+  unfolding before
+  end-over i h = rw (drop-of-length-le s h) (omega arith)
+
+  -- no further than the text's end, unless it began there
+  pub end-within : (i extra : ℕ) → i ≤ length s + extra → endOf gap s i ≤ length s + extra
+  end-within i extra h = omega (arith, before-most gap (drop i s), length-drop i s)
+
+-- the first word, and the words after it
+first-word : (gap b : ℕ) (s : List ℕ)
+    → split gap (b ∷ s) ≡ take (before gap (b ∷ s)) (b ∷ s) ∷ split gap (drop (suc (before gap (b ∷ s))) (b ∷ s))
+unfolding split before
+first-word gap b [] = go (eqb b gap)
+  where
+    go : (t : Bool) → cond t ([] ∷ []) ((b ∷ []) ∷ []) ≡ take (cond t 0 (suc 0)) (b ∷ []) ∷ split gap (drop (suc (cond t 0 (suc 0))) (b ∷ []))
+    go true = refl
+    go false = refl
+first-word gap b (c ∷ s) = go (eqb b gap) (first-word gap c s)
+  where
+    k : ℕ
+    k = before gap (c ∷ s)
+
+    go : (t : Bool) → split gap (c ∷ s) ≡ take k (c ∷ s) ∷ split gap (drop (suc k) (c ∷ s))
+        → cond t ([] ∷ split gap (c ∷ s)) (begun b (split gap (c ∷ s)))
+        ≡ take (cond t 0 (suc k)) (b ∷ c ∷ s) ∷ split gap (drop (suc (cond t 0 (suc k))) (b ∷ c ∷ s))
+    go true e = refl
+    go false e = ap (begun b) e
+
+module _ (gap : ℕ) (s : List ℕ) where
+  pub split-step : (at : ℕ) → at < length s
+      → split gap (drop at s) ≡ take (endOf gap s at - at) (drop at s) ∷ split gap (drop (endOf gap s at + 1) s)
+  split-step at h =
+      let b = getD s at 0 in
+      let r = drop (suc at) s in
+      let l : drop at s ≡ b ∷ r = drop-cons s at 0 h in
+      let k : endOf gap s at - at ≡ before gap (drop at s) = omega arith in
+      let j : endOf gap s at + 1 ≡ at + suc (before gap (drop at s)) = omega arith in
+      rw (k, j, ← drop-drop (suc (before gap (drop at s))) at s, l) (first-word gap b r)
+
+  pub split-over : (at : ℕ) → length s ≤ at → split gap (drop at s) ≡ []
+  unfolding split
+  split-over at h = rw (drop-of-length-le s h)
+
+-- word i starts at `start` where the words from it on are all that is left of the words
+abbrev pub Starts : ℕ → List ℕ → ℕ → ℕ → Type 0
+Starts gap s i start = drop i (split gap s) ≡ split gap (drop start s)
+
+module _ (gap : ℕ) (s : List ℕ) where
+  pub next-starts : (i start : ℕ) → Starts gap s i start → Starts gap s (i + 1) (endOf gap s start + 1)
+  next-starts i start e = go (decLt start (length s))
+    where
+      go : Dec (start < length s) → Starts gap s (i + 1) (endOf gap s start + 1)
+      go (yes h) = rw (← drop-drop 1 i (split gap s), e, split-step gap s start h)
+      go (no f) =
+          let h : length s ≤ start = omega arith in
+          rw (← drop-drop 1 i (split gap s), e, split-over gap s start h, split-over gap s (endOf gap s start + 1) (omega arith))
+
+  pub spans-word : (n start : ℕ) → Starts gap s n start → start < length s → Spans gap s n start (endOf gap s start)
+  spans-word n start e h =
+      record {
+        ordered = omega arith;
+        within = let h = end-within gap s start 0 (omega arith) in omega arith;
+        is = ap (λ (l : List (List ℕ)). getD l 0 []) (sym (split-step gap s start h) ∙ sym e) ∙ getD-drop n (split gap s) 0 [] ∙ rw (add-zero n);
+        there = lt-ltb start (length s) h ∙ sym (lt-ltb n (length (split gap s)) (omega (arith, ap length (e ∙ split-step gap s start h), length-drop n (split gap s))));
+      }
+
+  pub spans-none : (n start : ℕ) → Starts gap s n start → length s ≤ start → Spans gap s n (length s) (length s)
+  spans-none n start e h =
+      let l : length (split gap s) ≤ n = omega (arith, ap length (e ∙ split-over gap s start h), length-drop n (split gap s)) in
+      record {
+        ordered = omega arith;
+        within = omega arith;
+        is = rw (sub-self (length s)) (sym (List·getD-eq-default (split gap s) [] l));
+        there = le-ltb (length s) (length s) (omega arith) ∙ sym (le-ltb n (length (split gap s)) l);
+      }
+
+-- equal words
+same-self : (w : List ℕ) → sameWord w w ≡ true
+unfolding sameWord
+same-self [] = refl
+same-self (b ∷ w) = rw (eq-eqb b b refl, same-self w)
+
+same-means : (v w : List ℕ) → sameWord v w ≡ true → v ≡ w
+unfolding sameWord
+same-means [] [] e = refl
+same-means [] (c ∷ w) e = absurd (let z : _≡_ {A = ℕ} 0 1 = cc in omega arith)
+same-means (b ∷ v) [] e = absurd (let z : _≡_ {A = ℕ} 0 1 = cc in omega arith)
+same-means (b ∷ v) (c ∷ w) e = go (eqb b c) refl e (same-means v w)
+  where
+    go : (t : Bool) → eqb b c ≡ t → t && sameWord v w ≡ true → (sameWord v w ≡ true → v ≡ w) → b ∷ v ≡ c ∷ w
+    go true f e rest = let p = eqb-true b c f in let q = rest e in cc
+    go false f e rest = absurd (let z : _≡_ {A = ℕ} 0 1 = cc in omega arith)
+
+pub same-is : (v w : List ℕ) (t : Bool) → (t ≡ true → v ≡ w) → (v ≡ w → t ≡ true) → t ≡ sameWord v w
+same-is v w true f g = rw (← f refl) (sym (same-self v))
+same-is v w false f g = go (sameWord v w) refl
+  where
+    go : (u : Bool) → sameWord v w ≡ u → false ≡ sameWord v w
+    go true e = g (same-means v w e) ∙ sym e
+    go false e = sym e
+
+-- the place of a word among words found one after the other
+module _ (names w : List ℕ) where
+  pub place-here : (at : ℕ) → at < length names → sameWord w (take (endOf 32 names at - at) (drop at names)) ≡ true
+      → indexIn w (split 32 (drop at names)) ≡ 0
+  unfolding indexIn
+  place-here at h e = rw (split-step 32 names at h, e)
+
+  pub place-on : (at : ℕ) → at < length names → sameWord w (take (endOf 32 names at - at) (drop at names)) ≡ false
+      → indexIn w (split 32 (drop at names)) ≡ suc (indexIn w (split 32 (drop (endOf 32 names at + 1) names)))
+  unfolding indexIn
+  place-on at h e = rw (split-step 32 names at h, e)
+
+  pub place-over : (at : ℕ) → length names ≤ at → indexIn w (split 32 (drop at names)) ≡ 0
+  unfolding indexIn
+  place-over at h = rw (split-over 32 names at h)

@@ -1,0 +1,360 @@
+/* Corkplover: turns R, G, B into luma and chroma or back, by the code points of ITU-T H.273.
+ *
+ * This file is the manual for callers in C99, C11 and C++17. Hold to the types and functions whose names begin with cork_;
+ * the functions at the end whose names begin with corkplover_ are how the library is reached, and may change. Link with
+ * libcorkplover.a. The library keeps no state, allocates nothing and may be called from any number of threads at once.
+ *
+ * What a call may be given. Any numbers at all: codes, depths, sizes, strides and samples that make no sense get a refusal with
+ * a number and never a crash. What the caller owes the library, since no call can find out, is this:
+ *
+ *   1. A plane's pointer and length tell the truth: that many elements may be read there, or written in an output plane. With
+ *      length 0 the pointer still has to point somewhere: not null.
+ *   2. A plane starts at an address that is aligned for uint16_t.
+ *   3. An output plane overlaps no other plane of the call. Source planes may be one and the same.
+ *   4. Nobody else writes to a source plane, or reads or writes an output plane, while a call runs.
+ *   5. A bool holds 0 or 1. It always does, unless its byte was written as something other than a bool.
+ *   6. For the meter: the processor rounds floats to nearest, as every program starts out.
+ *
+ * If one of these is broken, nothing that is promised holds.
+ */
+#ifndef CORKPLOVER_H
+#define CORKPLOVER_H
+
+#include <stdbool.h>
+#include <stddef.h>
+#include <stdint.h>
+
+/* ---- Settings ----
+ *
+ * primaries, transfer and matrix are code points. Primaries and transfer change no sample: they are looked at and a reserved one
+ * is refused. The matrix picks the formulas:
+ *
+ *   1, 4, 5, 6, 7, 9   luma matrices: depths 8 to 12, c_depth = y_depth, everything else free
+ *   0                  the planes change places: three equal depths 8 to 16, equal flags. Lossless.
+ *   8                  YCgCo: rgb_depth = y_depth, equal flags, and c_depth = y_depth (lossy) or y_depth + 1 (lossless)
+ *   15                 YCgCo: y_depth = c_depth = rgb_depth + 2, equal flags. Lossless.
+ *   16                 YCgCo: y_depth = c_depth = rgb_depth + 1, equal flags. Lossless.
+ *
+ * A depth is the number of bits in use. Samples of depth d are 0 to 2^d - 1, and stand in the low bits of a uint16_t. The flags
+ * say for each side whether it is full range (true) or narrow (false).
+ */
+typedef struct cork_setting {
+    uint8_t primaries;
+    uint8_t transfer;
+    uint8_t matrix;
+    uint8_t rgb_depth;
+    uint8_t y_depth;
+    uint8_t c_depth;
+    bool rgb_full;
+    bool ycc_full;
+} cork_setting;
+
+/* ---- Pictures ----
+ *
+ * Three planes of one size that share a stride, the distance from one row's first element to the next row's. Plane 0, 1, 2 is
+ * R, G, B on one side and Y, Cb, Cr on the other. length counts elements, not bytes. The element of a row and column is
+ * plane[k][row * stride + column]; every other element is padding. Padding is never looked at in a source.
+ */
+typedef struct cork_source {
+    const uint16_t *plane[3];
+    size_t length[3];
+    size_t stride;
+} cork_source;
+
+typedef struct cork_output {
+    uint16_t *plane[3];
+    size_t length[3];
+    size_t stride;
+} cork_output;
+
+/* The ends of what is served. A stride is at least the width. */
+#define CORK_LARGEST_SIDE 8192
+#define CORK_LARGEST_STRIDE 16384
+
+/* How many elements each plane of a served size has to have at least. It may have more. */
+static inline size_t cork_needed_length(size_t width, size_t height, size_t stride)
+{
+    return (height - 1) * stride + width;
+}
+
+/* Three planes of one length, as a source or an output; and an output as the source of the next call. */
+static inline cork_source cork_source_of(const uint16_t *plane0, const uint16_t *plane1, const uint16_t *plane2, size_t length,
+                                         size_t stride)
+{
+    cork_source source = {{plane0, plane1, plane2}, {length, length, length}, stride};
+    return source;
+}
+
+static inline cork_output cork_output_of(uint16_t *plane0, uint16_t *plane1, uint16_t *plane2, size_t length, size_t stride)
+{
+    cork_output output = {{plane0, plane1, plane2}, {length, length, length}, stride};
+    return output;
+}
+
+static inline cork_source cork_read_back(cork_output output)
+{
+    cork_source source = {{output.plane[0], output.plane[1], output.plane[2]},
+                          {output.length[0], output.length[1], output.length[2]},
+                          output.stride};
+    return source;
+}
+
+/* ---- Refusals ----
+ *
+ * They are tested in the order 1 to 7, 11, 8, 9, 10, and the first that applies is given. So a refused call may have more than
+ * one fault, and mending one can bring up the next.
+ */
+typedef enum cork_refusal {
+    CORK_ACCEPTED = 0,
+    CORK_MATRIX_RESERVED = 1,     /* the matrix is 3 or 17 to 255 */
+    CORK_MATRIX_UNSPECIFIED = 2,  /* the matrix is 2, which names none */
+    CORK_MATRIX_NOT_SERVED = 3,   /* the matrix is 10 to 14 */
+    CORK_PRIMARIES_RESERVED = 4,  /* the primaries are not 1, 2, 4 to 12 or 22 */
+    CORK_TRANSFER_RESERVED = 5,   /* the transfer is not 1, 2 or 4 to 18 */
+    CORK_DEPTH_NOT_SERVED = 6,    /* a depth is outside 8 to 16, or outside 8 to 12 with a luma matrix */
+    CORK_DEPTHS_DISAGREE = 7,     /* the depths or the flags are not as the matrix asks */
+    CORK_SIZE_NOT_SERVED = 8,     /* a side outside 1 to 8192, or a stride below the width or above 16384 */
+    CORK_PLANE_TOO_SHORT = 9,     /* a plane is shorter than cork_needed_length */
+    CORK_SAMPLE_TOO_LARGE = 10,   /* a source sample has more bits than its depth; the answer says where */
+    CORK_NOT_FOR_THIS_MATRIX = 11 /* the meter without a luma matrix, or the image check without a lossless setting */
+} cork_refusal;
+
+/* The refusal in words, for a message; words too for a number that is no refusal. */
+static inline const char *cork_refusal_text(int number)
+{
+    switch (number) {
+    case CORK_ACCEPTED: return "accepted";
+    case CORK_MATRIX_RESERVED: return "the matrix code is reserved";
+    case CORK_MATRIX_UNSPECIFIED: return "the matrix code is 2, unspecified";
+    case CORK_MATRIX_NOT_SERVED: return "the matrix code is known and not served";
+    case CORK_PRIMARIES_RESERVED: return "the primaries code is reserved";
+    case CORK_TRANSFER_RESERVED: return "the transfer code is reserved";
+    case CORK_DEPTH_NOT_SERVED: return "a depth is not served";
+    case CORK_DEPTHS_DISAGREE: return "depths or range flags do not agree with the matrix";
+    case CORK_SIZE_NOT_SERVED: return "the width, the height or a stride is not served";
+    case CORK_PLANE_TOO_SHORT: return "a plane is too short for the picture";
+    case CORK_SAMPLE_TOO_LARGE: return "a source sample is too large for its depth";
+    case CORK_NOT_FOR_THIS_MATRIX: return "the meter needs a luma matrix, the image check a lossless setting";
+    default: return "not a refusal number";
+    }
+}
+
+/* ---- Answers ----
+ *
+ * Every call answers one of these. Read it by the functions below; each says of which answers it speaks. Of any other answer it
+ * gives some number that means nothing.
+ */
+typedef struct cork_answer {
+    uint64_t packed;
+} cork_answer;
+
+/* CORK_ACCEPTED or the refusal. Of every answer. */
+static inline cork_refusal cork_refusal_of(cork_answer answer)
+{
+    return (cork_refusal)(answer.packed & 0xff);
+}
+
+static inline bool cork_accepted(cork_answer answer)
+{
+    return cork_refusal_of(answer) == CORK_ACCEPTED;
+}
+
+/* The converted sample of plane 0, 1 or 2. Of an accepted call on a pixel. */
+static inline uint16_t cork_sample(cork_answer answer, unsigned plane)
+{
+    return plane > 2 ? 0 : (uint16_t)(answer.packed >> (16 + 16 * plane));
+}
+
+/* Whether the whole picture has an RGB source. Of an accepted image check. */
+static inline bool cork_has_source(cork_answer answer)
+{
+    return (answer.packed >> 8 & 0xff) == 0;
+}
+
+/* The plane of the first sample that is too large: the lowest plane that has one. Of CORK_SAMPLE_TOO_LARGE. */
+static inline unsigned cork_plane(cork_answer answer)
+{
+    return (unsigned)(answer.packed >> 8 & 0xff);
+}
+
+/* Row and column, counted from 0. Of CORK_SAMPLE_TOO_LARGE: where in that plane, the lowest row and in it the lowest column; 0 and
+ * 0 where the call took no picture. Of an accepted image check without a source: the first pixel that has none, likewise. */
+static inline unsigned cork_row(cork_answer answer)
+{
+    return (unsigned)(answer.packed >> 16 & 0xffff);
+}
+
+static inline unsigned cork_column(cork_answer answer)
+{
+    return (unsigned)(answer.packed >> 32 & 0xffff);
+}
+
+/* What the meter shows: the level if it was accepted, and 0 if not. */
+typedef struct cork_reading {
+    cork_answer answer;
+    float level;
+} cork_reading;
+
+typedef struct cork_levels {
+    cork_answer answer;
+    float y;
+    float cb;
+    float cr;
+} cork_levels;
+
+/* ---- The library's own functions: use the cork_ functions below ----
+ *
+ * A picture plane is a pointer and a length. The library's compiler knows nothing of these lines: tools/test-clients compares them
+ * with the library's source and calls every one.
+ */
+#define CORK_SETTING_PARAMETERS_                                                                                    \
+    uint8_t primaries, uint8_t transfer, uint8_t matrix, uint8_t rgb_depth, uint8_t y_depth, uint8_t c_depth, bool rgb_full, \
+        bool ycc_full
+#define CORK_SOURCE_PARAMETERS_                                                                                     \
+    const uint16_t *source0, size_t source_length0, const uint16_t *source1, size_t source_length1, const uint16_t *source2, \
+        size_t source_length2
+#define CORK_OUTPUT_PARAMETERS_                                                                                     \
+    uint16_t *output0, size_t output_length0, uint16_t *output1, size_t output_length1, uint16_t *output2, size_t output_length2
+
+#ifdef __cplusplus
+extern "C" {
+#endif
+uint8_t corkplover_primaries_label(uint8_t code);
+uint8_t corkplover_transfer_label(uint8_t code);
+uint8_t corkplover_matrix_label(uint8_t code);
+uint64_t corkplover_forward_pixel(CORK_SETTING_PARAMETERS_, uint16_t r, uint16_t g, uint16_t b);
+uint64_t corkplover_reverse_pixel(CORK_SETTING_PARAMETERS_, uint16_t y, uint16_t cb, uint16_t cr);
+uint64_t corkplover_forward_frame(CORK_SETTING_PARAMETERS_, size_t width, size_t height, size_t source_stride,
+                                  size_t output_stride, CORK_SOURCE_PARAMETERS_, CORK_OUTPUT_PARAMETERS_);
+uint64_t corkplover_reverse_frame(CORK_SETTING_PARAMETERS_, size_t width, size_t height, size_t source_stride,
+                                  size_t output_stride, CORK_SOURCE_PARAMETERS_, CORK_OUTPUT_PARAMETERS_);
+uint64_t corkplover_image_check(CORK_SETTING_PARAMETERS_, size_t width, size_t height, size_t stride, CORK_SOURCE_PARAMETERS_);
+uint64_t corkplover_meter_y(CORK_SETTING_PARAMETERS_, uint16_t y, float *level);
+uint64_t corkplover_meter_cb(CORK_SETTING_PARAMETERS_, uint16_t cb, float *level);
+uint64_t corkplover_meter_cr(CORK_SETTING_PARAMETERS_, uint16_t cr, float *level);
+uint64_t corkplover_meter_pixel(CORK_SETTING_PARAMETERS_, uint16_t y, uint16_t cb, uint16_t cr, float *y_level, float *cb_level,
+                                float *cr_level);
+#ifdef __cplusplus
+}
+#endif
+
+/* A size_t is passed where the library takes 64 bits. */
+typedef char cork_needs_64_bit_sizes_[sizeof(size_t) == 8 ? 1 : -1];
+
+#define CORK_SETTING_(s) \
+    (s).primaries, (s).transfer, (s).matrix, (s).rgb_depth, (s).y_depth, (s).c_depth, (s).rgb_full, (s).ycc_full
+#define CORK_PLANES_(p) (p).plane[0], (p).length[0], (p).plane[1], (p).length[1], (p).plane[2], (p).length[2]
+
+static inline cork_answer cork_answer_(uint64_t packed)
+{
+    cork_answer answer = {packed};
+    return answer;
+}
+
+/* ---- Labels ----
+ *
+ * What H.273 says of a code point, for each of the 256: assigned a meaning, unspecified (2), or reserved.
+ */
+typedef enum cork_label { CORK_ASSIGNED = 0, CORK_UNSPECIFIED = 1, CORK_RESERVED = 2 } cork_label;
+
+static inline cork_label cork_primaries_label(uint8_t code)
+{
+    return (cork_label)corkplover_primaries_label(code);
+}
+
+static inline cork_label cork_transfer_label(uint8_t code)
+{
+    return (cork_label)corkplover_transfer_label(code);
+}
+
+static inline cork_label cork_matrix_label(uint8_t code)
+{
+    return (cork_label)corkplover_matrix_label(code);
+}
+
+/* ---- One pixel ----
+ *
+ * Accepted: the three samples, by cork_sample. Refusals: 1 to 7 and 10.
+ */
+static inline cork_answer cork_forward_pixel(cork_setting s, uint16_t r, uint16_t g, uint16_t b)
+{
+    return cork_answer_(corkplover_forward_pixel(CORK_SETTING_(s), r, g, b));
+}
+
+static inline cork_answer cork_reverse_pixel(cork_setting s, uint16_t y, uint16_t cb, uint16_t cr)
+{
+    return cork_answer_(corkplover_reverse_pixel(CORK_SETTING_(s), y, cb, cr));
+}
+
+/* ---- Frames ----
+ *
+ * Forward reads R, G, B and writes Y, Cb, Cr; reverse the other way. The two sides may have different strides and lengths.
+ * Accepted: each picture element of the output is the converted sample, and every other element of the output planes, in the
+ * padding and past the last row, is 0. Refused: every element of the output planes is 0. So nothing that the output held before
+ * is left after any call. The source is only read. Refusals: 1 to 7, 8, 9 and 10; 8 and 9 speak of both sides.
+ */
+static inline cork_answer cork_forward_frame(cork_setting s, size_t width, size_t height, cork_source source, cork_output output)
+{
+    return cork_answer_(corkplover_forward_frame(CORK_SETTING_(s), width, height, source.stride, output.stride,
+                                                 CORK_PLANES_(source), CORK_PLANES_(output)));
+}
+
+static inline cork_answer cork_reverse_frame(cork_setting s, size_t width, size_t height, cork_source source, cork_output output)
+{
+    return cork_answer_(corkplover_reverse_frame(CORK_SETTING_(s), width, height, source.stride, output.stride,
+                                                 CORK_PLANES_(source), CORK_PLANES_(output)));
+}
+
+/* ---- Image check ----
+ *
+ * On a lossless setting: whether some RGB picture within depth converts to this Y, Cb, Cr picture. Accepted: cork_has_source, and
+ * where it is false the first pixel that no RGB pixel converts to, by cork_row and cork_column. The picture is only read.
+ * Refusals: 1 to 7, 11, 8, 9 and 10.
+ */
+static inline cork_answer cork_image_check(cork_setting s, size_t width, size_t height, cork_source ycc)
+{
+    return cork_answer_(corkplover_image_check(CORK_SETTING_(s), width, height, ycc.stride, CORK_PLANES_(ycc)));
+}
+
+/* ---- Spot meter ----
+ *
+ * The level that a sample stands for on a luma matrix: 0 to 1 from black to white for Y, -0.5 to 0.5 for Cb and Cr, and somewhat
+ * beyond for samples outside the nominal range. It is the exact quotient, rounded once to a float. A call on one sample looks
+ * at that sample alone. Refusals: 1 to 7, 11 and 10; a 10 has the sample's plane, 0 for Y, 1 for Cb, 2 for Cr.
+ */
+static inline cork_reading cork_meter_y(cork_setting s, uint16_t y)
+{
+    cork_reading reading;
+    reading.answer = cork_answer_(corkplover_meter_y(CORK_SETTING_(s), y, &reading.level));
+    return reading;
+}
+
+static inline cork_reading cork_meter_cb(cork_setting s, uint16_t cb)
+{
+    cork_reading reading;
+    reading.answer = cork_answer_(corkplover_meter_cb(CORK_SETTING_(s), cb, &reading.level));
+    return reading;
+}
+
+static inline cork_reading cork_meter_cr(cork_setting s, uint16_t cr)
+{
+    cork_reading reading;
+    reading.answer = cork_answer_(corkplover_meter_cr(CORK_SETTING_(s), cr, &reading.level));
+    return reading;
+}
+
+static inline cork_levels cork_meter_pixel(cork_setting s, uint16_t y, uint16_t cb, uint16_t cr)
+{
+    cork_levels levels;
+    levels.answer =
+        cork_answer_(corkplover_meter_pixel(CORK_SETTING_(s), y, cb, cr, &levels.y, &levels.cb, &levels.cr));
+    return levels;
+}
+
+#undef CORK_SETTING_PARAMETERS_
+#undef CORK_SOURCE_PARAMETERS_
+#undef CORK_OUTPUT_PARAMETERS_
+#undef CORK_SETTING_
+#undef CORK_PLANES_
+
+#endif

@@ -1,0 +1,132 @@
+//! Answers the oracle's cases by the library, through the Rust binding, in the oracle's words.
+
+use corkplover::*;
+use std::io::Read;
+use std::str::SplitAsciiWhitespace;
+
+struct Words<'a>(SplitAsciiWhitespace<'a>);
+
+impl Words<'_> {
+    fn number<N: std::str::FromStr>(&mut self) -> N {
+        let word = self.0.next().expect("a word is missing");
+        word.parse().unwrap_or_else(|_| panic!("'{}' is no number here", word))
+    }
+
+    fn flag(&mut self) -> bool {
+        self.number::<u8>() != 0
+    }
+
+    fn setting(&mut self) -> Setting {
+        Setting {
+            primaries: self.number(),
+            transfer: self.number(),
+            matrix: self.number(),
+            rgb_depth: self.number(),
+            y_depth: self.number(),
+            c_depth: self.number(),
+            rgb_full: self.flag(),
+            ycc_full: self.flag(),
+        }
+    }
+
+    fn pixel(&mut self) -> [u16; 3] {
+        [self.number(), self.number(), self.number()]
+    }
+
+    fn planes(&mut self) -> [Vec<u16>; 3] {
+        [(); 3].map(|_| {
+            let length: usize = self.number();
+            (0..length).map(|_| self.number()).collect()
+        })
+    }
+}
+
+fn refused(r: Refusal) -> String {
+    if r.number == 10 {
+        return format!("refused 10 plane {} row {} column {}", r.plane, r.row, r.column);
+    }
+    format!("refused {}", r.number)
+}
+
+fn said<T>(answer: Result<T, Refusal>, words: impl Fn(T) -> String) -> String {
+    answer.map_or_else(refused, words)
+}
+
+fn samples(p: [u16; 3]) -> String {
+    format!("samples {} {} {}", p[0], p[1], p[2])
+}
+
+fn level(l: f32) -> String {
+    format!("level {:08x}", l.to_bits())
+}
+
+fn levels(l: Levels) -> String {
+    format!("levels {:08x} {:08x} {:08x}", l.y.to_bits(), l.cb.to_bits(), l.cr.to_bits())
+}
+
+fn label(l: Label) -> String {
+    format!("{:?}", l).to_lowercase()
+}
+
+fn borrowed(planes: &[Vec<u16>; 3], stride: usize) -> Source<'_> {
+    Source { planes: [&planes[0], &planes[1], &planes[2]], stride }
+}
+
+/// The library's check of a picture of one pixel stands for the oracle's check of a pixel.
+fn source_check(s: &Setting, p: [u16; 3]) -> String {
+    let planes = p.map(|v| vec![v]);
+    said(image_check(s, 1, 1, borrowed(&planes, 1)), |place| String::from(if place.is_none() { "yes" } else { "none" }))
+}
+
+fn image(w: &mut Words) -> String {
+    let (s, width, height, stride) = (w.setting(), w.number(), w.number(), w.number());
+    let planes = w.planes();
+    said(image_check(&s, width, height, borrowed(&planes, stride)), |place| match place {
+        None => String::from("yes"),
+        Some((row, column)) => format!("none row {} column {}", row, column),
+    })
+}
+
+fn frame(w: &mut Words, forward: bool) -> String {
+    let (s, width, height, stride, output_stride) = (w.setting(), w.number(), w.number(), w.number(), w.number());
+    let source = w.planes();
+    let mut planes = [(); 3].map(|_| vec![0xa5a5u16; w.number()]);
+    w.number::<u16>();
+    let [a, b, c] = &mut planes;
+    let mut output = Output { planes: [a, b, c], stride: output_stride };
+    let convert = if forward { forward_frame } else { reverse_frame };
+    let mut lines = said(convert(&s, width, height, borrowed(&source, stride), &mut output), |()| String::from("done"));
+    for plane in planes {
+        let words: Vec<String> = plane.iter().map(u16::to_string).collect();
+        lines = lines + "\n" + &words.join(" ");
+    }
+    lines
+}
+
+fn answer(line: &str) -> String {
+    let mut words = Words(line.split_ascii_whitespace());
+    let w = &mut words;
+    match w.0.next().expect("a case") {
+        "p" => label(primaries_label(w.number())),
+        "t" => label(transfer_label(w.number())),
+        "x" => label(matrix_label(w.number())),
+        "f" => said(forward_pixel(&w.setting(), w.pixel()), samples),
+        "r" => said(reverse_pixel(&w.setting(), w.pixel()), samples),
+        "s" => source_check(&w.setting(), w.pixel()),
+        "y" => said(meter_y(&w.setting(), w.number()), level),
+        "b" => said(meter_cb(&w.setting(), w.number()), level),
+        "c" => said(meter_cr(&w.setting(), w.number()), level),
+        "m" => said(meter_pixel(&w.setting(), w.pixel()), levels),
+        "F" => frame(w, true),
+        "R" => frame(w, false),
+        "I" => image(w),
+        other => panic!("'{}' is not a case", other),
+    }
+}
+
+fn main() {
+    let mut cases = String::new();
+    std::io::stdin().read_to_string(&mut cases).expect("the cases");
+    let answers: String = cases.lines().map(|line| answer(line) + "\n").collect();
+    print!("{}", answers);
+}

@@ -1,0 +1,82 @@
+"""Compares what the header and the bindings declare with the exports as the box's source has them: names, types, order.
+
+Standard input is the header after the preprocessor. The box's compiler knows nothing of these declarations, and a call with small
+numbers may come out right though a type is too wide; so the texts are compared, parameter by parameter.
+"""
+import ctypes
+import glob
+import re
+import sys
+
+import corkplover
+
+RATTLE = {"u8": "u8", "u16": "u16", "bool": "bool", "usize": "usize", "&[u16]": "*u16 usize", "&mut [u16]": "*mut-u16 usize",
+          "&mut f32": "*f32", "u64": "u64"}
+C = {"uint8_t": "u8", "uint16_t": "u16", "_Bool": "bool", "size_t": "usize", "const uint16_t *": "*u16", "uint16_t *": "*mut-u16",
+     "float *": "*f32", "uint64_t": "u64"}
+RUST = {"u8": "u8", "u16": "u16", "bool": "bool", "usize": "usize", "*const u16": "*u16", "*mut u16": "*mut-u16", "*mut f32": "*f32"}
+PYTHON = {ctypes.c_uint8: "u8", ctypes.c_uint16: "u16", ctypes.c_bool: "bool", ctypes.c_size_t: "usize", ctypes.c_void_p: "pointer",
+          ctypes.POINTER(ctypes.c_float): "*f32"}
+
+
+def parameters(text, split, table):
+    """The types of a parameter list as one line of words."""
+    pieces = [piece.strip() for piece in text.split(",") if piece.strip()]
+    return " ".join(table.get(split(piece), "unknown(%s)" % piece) for piece in pieces)
+
+
+def after_colon(piece):
+    return piece.split(":", 1)[1].strip()
+
+
+def before_name(piece):
+    return re.match(r"(.*?)\w+$", piece).group(1).strip()
+
+
+def of_source():
+    found = {}
+    for path in glob.glob("crates/corkplover/src/*.rt"):
+        with open(path) as source:
+            for export in re.finditer(r'pub extern "C" fn (corkplover_\w+)\(([^)]*)\) -> (\w+)', source.read()):
+                found[export[1]] = parameters(export[2], after_colon, RATTLE) + " -> " + export[3]
+    return found
+
+
+def of_header():
+    text = re.sub(r"\s+", " ", re.sub(r"^#.*$", "", sys.stdin.read(), flags=re.M))
+    declared = re.finditer(r"(uint\d+_t) (corkplover_\w+)\(([^)]*)\);", text)
+    return {d[2]: parameters(d[3], before_name, C) + " -> " + C[d[1]] for d in declared}
+
+
+def of_rust():
+    with open("bindings/rust/corkplover.rs") as source:
+        text = re.sub(r"\s+", " ", source.read())
+    labels = re.finditer(r"fn (corkplover_\w+_label)\(([^)]*)\) -> (\w+);", text)
+    found = {d[1]: parameters(d[2], after_colon, RUST) + " -> " + d[3] for d in labels}
+    before = re.search(r"fn \$name\((.*?)\$", text)[1]
+    for export in re.finditer(r"(corkplover_\w+)\(([^()]*)\);", re.search(r"exports! \{(.*?)\}", text)[1]):
+        found[export[1]] = parameters(before + export[2], after_colon, RUST) + " -> u64"
+    return found
+
+
+def of_python():
+    results = {ctypes.c_uint8: "u8", ctypes.c_uint64: "u64"}
+    functions = list(corkplover._labels.values()) + list(corkplover._exports.values())
+    return {f.__name__: " ".join(PYTHON.get(t, "unknown(%s)" % t) for t in f.argtypes) + " -> " + results[f.restype] for f in functions}
+
+
+def main():
+    source = of_source()
+    untyped = {name: re.sub(r"\*(mut-)?u16", "pointer", types) for name, types in source.items()}
+    wrong = 0
+    for place, declared, wanted in (("header", of_header(), source), ("Rust", of_rust(), source), ("Python", of_python(), untyped)):
+        for name in sorted(set(declared) | set(wanted)):
+            if declared.get(name) != wanted.get(name):
+                wrong += 1
+                print("%s, %s:\n  declared %s\n  exported %s" % (place, name, declared.get(name), wanted.get(name)))
+    print("%d exports, %d differences" % (len(source), wrong))
+    return 1 if wrong or len(source) < 12 else 0
+
+
+if __name__ == "__main__":
+    sys.exit(main())

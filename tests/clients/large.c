@@ -1,0 +1,94 @@
+/* The largest pictures that are served: 8192 by 8192, and 1 by 8192, both at stride 16,384, in planes of just the length that is
+ * needed. Black pictures with one white pixel in the last corner. Takes about a gigabyte. */
+#include "cases.h"
+
+enum { SIDE = CORK_LARGEST_SIDE, STRIDE = CORK_LARGEST_STRIDE };
+
+static const cork_setting LOSSLESS = {1, 1, 8, 8, 8, 9, true, true};
+
+/* Black and white on this setting, as Y, Cb, Cr. */
+static const uint16_t BLACK[3] = {0, 256, 256}, WHITE[3] = {255, 256, 256};
+
+static void must(bool holds, const char *what)
+{
+    if (holds) return;
+    printf("%s\n", what);
+    exit(1);
+}
+
+static uint16_t *planes[3], *sources[3];
+static size_t length;
+
+static cork_answer convert(size_t width, size_t shorter_by)
+{
+    for (int k = 0; k < 3; k++) memset(planes[k], 0xa5, length * sizeof(uint16_t));
+    cork_source from = cork_source_of(sources[0], sources[1], sources[2], length, STRIDE);
+    cork_output to = cork_output_of(planes[0], planes[1], planes[2], length - shorter_by, STRIDE);
+    return cork_forward_frame(LOSSLESS, width, SIDE, from, to);
+}
+
+/* Every element: the picture's, and the zeros between its rows. */
+static bool is_converted(int k, size_t width)
+{
+    for (size_t i = 0; i + 1 < length; i++)
+        if (planes[k][i] != (i % STRIDE < width ? BLACK[k] : 0)) return false;
+    return planes[k][length - 1] == WHITE[k];
+}
+
+static bool is_zero(int k, size_t count)
+{
+    for (size_t i = 0; i < count; i++)
+        if (planes[k][i] != 0) return false;
+    return true;
+}
+
+static void check_frames(size_t width)
+{
+    must(cork_accepted(convert(width, 0)), "the largest frame is not served");
+    for (int k = 0; k < 3; k++) must(is_converted(k, width), "a sample of the largest frame is wrong");
+    must(convert(width, 1).packed == CORK_PLANE_TOO_SHORT, "one element less is not refused with 9");
+    for (int k = 0; k < 3; k++) {
+        must(is_zero(k, length - 1), "a refused call left something behind");
+        must(planes[k][length - 1] == 0xa5a5, "a refused call wrote past the plane's end");
+    }
+    sources[2][length - 1] = 256;
+    cork_answer a = convert(width, 0);
+    sources[2][length - 1] = 255;
+    must(cork_refusal_of(a) == CORK_SAMPLE_TOO_LARGE && cork_plane(a) == 2, "a sample too large in the last corner is missed");
+    must(cork_row(a) == SIDE - 1 && cork_column(a) == width - 1, "its place is wrong");
+}
+
+/* On the black and white picture just made: its source is there, and is gone once the last corner's luma is changed. */
+static void check_image(size_t width)
+{
+    must(cork_accepted(convert(width, 0)), "the largest frame is not served");
+    cork_source ycc = cork_source_of(planes[0], planes[1], planes[2], length, STRIDE);
+    cork_answer a = cork_image_check(LOSSLESS, width, SIDE, ycc);
+    must(cork_accepted(a) && cork_has_source(a), "the image check misses a source");
+    planes[1][length - 1] = 511;
+    a = cork_image_check(LOSSLESS, width, SIDE, ycc);
+    must(cork_accepted(a) && !cork_has_source(a), "the image check finds a source where none is");
+    must(cork_row(a) == SIDE - 1 && cork_column(a) == width - 1, "its place is wrong");
+}
+
+int main(void)
+{
+    const size_t widths[] = {SIDE, 1};
+    for (int w = 0; w < 2; w++) {
+        length = cork_needed_length(widths[w], SIDE, STRIDE);
+        for (int k = 0; k < 3; k++) {
+            /* pages of zeros that are only read take no memory */
+            sources[k] = (uint16_t *)calloc(length, sizeof(uint16_t));
+            planes[k] = (uint16_t *)malloc(length * sizeof(uint16_t));
+            must(sources[k] && planes[k], "no memory");
+            sources[k][length - 1] = 255;
+        }
+        check_frames(widths[w]);
+        check_image(widths[w]);
+        for (int k = 0; k < 3; k++) {
+            free(sources[k]);
+            free(planes[k]);
+        }
+    }
+    return 0;
+}
