@@ -1,5 +1,5 @@
 -- The answer and the output planes of a conversion, by its verdict.
-use mathlib.Core.Path.{_≡_, sym}
+use mathlib.Core.Path.{_≡_}
 use Prim.Native.Nat.{ℕ}
 use Rattle.refusal.specs.declared.Refusal.{Refusal}
 use Rattle.setting.specs.declared.Setting.{Setting}

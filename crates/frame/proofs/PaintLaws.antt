@@ -7,7 +7,7 @@ use native.Mathlib.Omega.{arith}
 use lib.ListN.{length}
 use Rattle.sample.specs.declared.Pixel.{Pixel}
 use Rattle.setting.specs.declared.verdict.Served.{Served}
-use Rattle.plane.specs.Plane.{planeOf, patched, cleared}
+use Rattle.plane.specs.Plane.{patched, cleared}
 use Rattle.plane.specs.Sizes.{Long, RowStart, ServedSide}
 use Rattle.plane.specs.declared.size.Side.{Side}
 use Rattle.plane.proofs.Painted.{part-width, part-sample, Progress, progress-none, progress-more, Painted, painted-none, painted-more, painted-end}

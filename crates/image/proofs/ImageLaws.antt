@@ -1,5 +1,5 @@
 -- Laws of the search for a pixel without a source: what the test of a pixel says of its place.
-use mathlib.Core.Path.{_≡_, refl, sym, ap, _∙_, subst}
+use mathlib.Core.Path.{_≡_, sym, ap, _∙_}
 use mathlib.Core.Bool.{Bool, true, false, not}
 use Prim.Native.Nat.{ℕ, _+_, _*_}
 use lib.ListN.{getD}

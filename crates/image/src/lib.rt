@@ -1,6 +1,5 @@
 // The image check: does a picture of Y, Cb, Cr come from one of R, G, B?
 ghost use mathlib.Core.Path.{_≡_};
-ghost use lib.ListN.{length};
 ghost use Rattle.plane.specs.Sizes.{ServedSide};
 ghost use Rattle.pixel.specs.Ready.{Ready};
 ghost use Rattle.sample.specs.Depth.{InsideYCC};

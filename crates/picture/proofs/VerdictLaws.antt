@@ -1,5 +1,5 @@
 -- The verdict on a picture, by what the code has found out so far.
-use mathlib.Core.Path.{_≡_, refl, sym, ap, _∙_}
+use mathlib.Core.Path.{_≡_, refl, sym, ap}
 use mathlib.Core.List.{List, [], _∷_}
 use Prim.Native.Nat.{ℕ}
 use native.Mathlib.Omega.{arith}
@@ -14,7 +14,6 @@ use Rattle.setting.specs.declared.Setting.{Setting}
 use Rattle.setting.specs.declared.verdict.Served.{Served}
 use Rattle.setting.specs.declared.verdict.Verdict.{Verdict}
 use Rattle.setting.specs.declared.verdict.Verdict.the-variants as verdict
-use Rattle.setting.proofs.RefusalLaws.{judged-served, judged-refused}
 use Rattle.plane.specs.Sizes.{sizeRefusal}
 use Rattle.plane.specs.declared.search.Found.{Found}
 use Rattle.plane.specs.declared.search.Found.the-variants as found
@@ -23,7 +22,7 @@ use Rattle.plane.proofs.SizeLaws.{twice}
 use Rattle.pixel.specs.Ready.{ThreeDepths, Ready}
 use Rattle.pixel.specs.declared.Way.{Way}
 use Rattle.picture.specs.Picture.{Picture, sideOfPicture}
-use Rattle.picture.specs.Verdict.{beyondDepth, pastServed, past, numberBefore10, pictureVerdict}
+use Rattle.picture.specs.Verdict.{beyondDepth, pastServed, past, pictureVerdict}
 
 -- a verdict is one of the two
 never-both : (x : Served) (r : Refusal) → verdict.Served x ≡ verdict.Refused r → ⊥

@@ -2,45 +2,35 @@
 -- check says yes exactly if some RGB picture within depth converts to the given one. The pixels' own theorems, row by row.
 use mathlib.Core.Path.{_≡_, refl, sym, ap, _∙_, subst}
 use mathlib.Core.Bool.{Bool, true, false, not}
-use mathlib.Core.List.{List, [], _∷_}
-use mathlib.Core.Logic.{_↔_}
-use Prim.Native.Nat.{ℕ, _+_, _*_, _≤_, _<_}
+use mathlib.Core.List.{[], _∷_}
+use Prim.Native.Nat.{ℕ, _<_}
 use native.Mathlib.Omega.{arith}
-use borrow.Author.Tests.{not-true, not-false}
-use Rattle.sample.specs.Depth.{InsideRGB, InsideYCC}
+use Rattle.sample.specs.Depth.{InsideYCC}
 use Rattle.sample.specs.declared.Pixel.{Pixel}
 use Rattle.refusal.specs.Table.{row, first}
-use Rattle.refusal.specs.declared.Place.{Place}
 use Rattle.refusal.proofs.TableLaws.{neither}
-use Rattle.plane.specs.First.{IsFirstPlace}
 use Rattle.plane.specs.Plane.{planeOf, sampleAt}
-use Rattle.plane.specs.Sizes.{needed, sizeRefusal, ServedSide}
-use Rattle.plane.specs.declared.search.Found.{Found}
-use Rattle.plane.specs.declared.search.Found.the-variants as found
+use Rattle.plane.specs.Sizes.{sizeRefusal, ServedSide}
 use Rattle.plane.specs.declared.size.Side.{Side}
-use Rattle.plane.proofs.PlaneTheorems.{plane-inside, plane-same}
+use Rattle.plane.proofs.PlaneTheorems.{plane-same}
 use Rattle.plane.proofs.SizeTheorems.{refused-0}
-use Rattle.plane.proofs.SearchTheorems.{no-place-means, first-place-means}
 use Rattle.setting.specs.Refusals.{family, depths, served, codeRows, depthRows, refusalOf}
 use Rattle.setting.specs.Matrix.{matrixOf}
 use Rattle.setting.specs.declared.Call.the-variants as call
 use Rattle.setting.specs.declared.Setting.{Setting}
 use Rattle.setting.proofs.RefusalLaws.{in-turn}
 use Rattle.pixel.specs.Pixel.{callOf, convert}
-use Rattle.pixel.specs.Source.{HasSource, hasSource}
 use Rattle.pixel.specs.declared.Way.{Way}
 use Rattle.pixel.specs.declared.Way.the-variants.{Forward, Reverse}
-use Rattle.pixel.proofs.ReadyLaws.{ready, is-lossless}
-use Rattle.pixel.proofs.PixelTheorems.{forward-inside, reverse-inside, tested, has-source}
+use Rattle.pixel.proofs.ReadyLaws.{ready}
+use Rattle.pixel.proofs.PixelTheorems.{forward-inside}
 use Rattle.picture.specs.Picture.{Picture, picture, sideOfPicture, pixelOf, EveryPixel}
-use Rattle.picture.proofs.Accepted.{Accepted, of-accepted, sides-served, pixels-inside, none-beyond}
+use Rattle.picture.proofs.Accepted.{Accepted, sides-served, pixels-inside, none-beyond}
 use Rattle.row.specs.Row.{sampleOf}
 use Rattle.frame.specs.Frame.{frameAnswer, lengthOf, outPlane}
 use Rattle.frame.specs.declared.FrameAnswer.the-variants.{Done}
-use Rattle.image.specs.Image.{sourceless, firstSourceless, answerFound, answerBy, imageAnswer}
-use Rattle.image.specs.declared.ImageAnswer.the-variants.{Yes, NoSource}
 use Rattle.promises.proofs.Lossless.{pixel-trip, pixel-one-to-one}
-use Rattle.promises.proofs.Frames.{frame-done, frame-length, done-plane, done-inside, index-inside}
+use Rattle.promises.proofs.Frames.{frame-done, frame-length, done-plane, done-inside}
 
 -- a pixel is its three samples
 pixel-is : (p q : Pixel) → ((k : ℕ) → k < 3 → sampleOf k p ≡ sampleOf k q) → p ≡ q

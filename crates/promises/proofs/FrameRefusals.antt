@@ -34,7 +34,7 @@ use Rattle.frame.specs.declared.FrameAnswer.the-variants as FrameAnswer
 use Rattle.image.specs.Image.{firstSourceless, answerFound, imageAnswer, imageNumber}
 use Rattle.image.specs.Image as image
 use Rattle.image.specs.declared.ImageAnswer.the-variants as ImageAnswer
-use Rattle.promises.specs.Tables.{isFound, thenBad, pictureTable, frameTable, imageTable}
+use Rattle.promises.specs.Tables.{isFound, pictureTable, frameTable, imageTable}
 use Rattle.promises.proofs.Refusals.{number, past-number, Exactly, exactly-first, whole-numbered}
 
 -- the rows before row 10

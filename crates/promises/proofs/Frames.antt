@@ -1,6 +1,6 @@
 -- Demands 1 and 2 on whole pictures: what a frame call leaves in each element of its output planes, and that this and every answer depend
 -- on the setting, the sizes, the lengths of the planes and the samples inside the picture alone.
-use mathlib.Core.Path.{_≡_, refl, sym, ap, _∙_}
+use mathlib.Core.Path.{_≡_, refl, ap, _∙_}
 use mathlib.Core.List.{List, [], _∷_}
 use mathlib.Core.Logic.{_↔_}
 use Prim.Native.Nat.{ℕ, zero, suc, _+_, _*_, _-_, _≤_, _<_}
@@ -8,7 +8,7 @@ use native.Mathlib.Nat.{mul-le-mul-right}
 use native.Mathlib.Omega.{arith}
 use lib.ListN.{length, getD}
 use Rattle.refusal.specs.declared.Refusal.{Refusal}
-use Rattle.plane.specs.Plane.{zeros, sampleAt, SamePicture}
+use Rattle.plane.specs.Plane.{sampleAt, SamePicture}
 use Rattle.plane.specs.Sizes.{needed, ServedSide}
 use Rattle.plane.specs.declared.size.Side.{Side}
 use Rattle.plane.proofs.Tables.{length-tab, tab-at}
@@ -22,7 +22,6 @@ use Rattle.setting.specs.declared.verdict.Served.{Served}
 use Rattle.setting.specs.declared.verdict.Verdict.{Verdict}
 use Rattle.setting.specs.declared.verdict.Verdict.the-variants as verdict
 use Rattle.pixel.specs.Pixel.{callOf, convert}
-use Rattle.pixel.specs.Source.{hasSource}
 use Rattle.pixel.specs.declared.Way.{Way}
 use Rattle.pixel.specs.declared.Way.the-variants.{Reverse}
 use Rattle.picture.specs.Picture.{Picture, picture, pixelOf}
@@ -30,9 +29,8 @@ use Rattle.picture.specs.Verdict.{pictureVerdict}
 use Rattle.picture.proofs.Accepted.{Accepted, accepted-of, of-accepted, sides-served}
 use Rattle.row.specs.Row.{sampleOf}
 use Rattle.frame.specs.Frame.{frameVerdict, answerBy, frameAnswer, convertedPlane, planeBy, lengthOf, outPlane}
-use Rattle.frame.specs.declared.FrameAnswer.{FrameAnswer}
 use Rattle.frame.specs.declared.FrameAnswer.the-variants.{Done, Refused}
-use Rattle.frame.proofs.FrameLaws.{done, plane-done, refused, plane-refused}
+use Rattle.frame.proofs.FrameLaws.{plane-done, refused, plane-refused}
 use Rattle.image.specs.Image.{sourceless, firstSourceless, answerFound, imageAnswer}
 use Rattle.image.specs.Image as image
 

@@ -1,5 +1,5 @@
 -- Laws of a loop that converts a row: it stores one pixel more with each turn, and in the end has stored the whole row.
-use mathlib.Core.Path.{_≡_, refl, sym, ap, _∙_}
+use mathlib.Core.Path.{_≡_, sym, ap, _∙_}
 use mathlib.Core.List.{List}
 use Prim.Native.Nat.{ℕ, _+_, _≤_, _<_}
 use native.Mathlib.Omega.{arith}
@@ -26,8 +26,12 @@ pub record Written (f : Pixel → Pixel) (a0 a1 a2 b0 b1 b2 : List ℕ) (i : ℕ
   pub row1 : Filled (converted 1 f a0 a1 a2) (length a0) b1 i
   pub row2 : Filled (converted 2 f a0 a1 a2) (length a0) b2 i
 
-module _ (f : Pixel → Pixel) (a0 a1 a2 : List ℕ) where
-  pub written-none : {b0 b1 b2 : List ℕ} → Abreast a0 a1 a2 b0 b1 b2 → Written f a0 a1 a2 b0 b1 b2 0
+-- three rows, by what makes them
+abbrev pub Made : (Pixel → Pixel) → List ℕ → List ℕ → List ℕ → List ℕ → List ℕ → List ℕ → Type 0
+Made f a0 a1 a2 b0 b1 b2 = (b0 ≡ rowOf 0 f a0 a1 a2) × ((b1 ≡ rowOf 1 f a0 a1 a2) × (b2 ≡ rowOf 2 f a0 a1 a2))
+
+module _ {f : Pixel → Pixel} {a0 a1 a2 b0 b1 b2 : List ℕ} where
+  pub written-none : Abreast a0 a1 a2 b0 b1 b2 → Written f a0 a1 a2 b0 b1 b2 0
   written-none h =
       record {
         until = omega arith;
@@ -36,24 +40,21 @@ module _ (f : Pixel → Pixel) (a0 a1 a2 : List ℕ) where
         row2 = filled-none _ _ _ (h .b2-long);
       }
 
-  pub written-more : {b0 b1 b2 c0 c1 c2 : List ℕ} {i : ℕ} {q : Pixel} → Written f a0 a1 a2 b0 b1 b2 i → i < length a0
-      → q ≡ f (pixelIn a0 a1 a2 i) → c0 ≡ set b0 i (q .p0) → c1 ≡ set b1 i (q .p1) → c2 ≡ set b2 i (q .p2)
+  -- a turn: of the pixel p at i the formula makes q, which is stored
+  pub written-more : {c0 c1 c2 : List ℕ} {i : ℕ} {p q : Pixel} → Written f a0 a1 a2 b0 b1 b2 i → i < length a0
+      → p ≡ pixelIn a0 a1 a2 i → q ≡ f p → c0 ≡ set b0 i (q .p0) → c1 ≡ set b1 i (q .p1) → c2 ≡ set b2 i (q .p2)
       → Written f a0 a1 a2 c0 c1 c2 (i + 1)
-  written-more w l e e0 e1 e2 =
+  written-more w l e g e0 e1 e2 =
+      let d = g ∙ ap f e in
       record {
         until = omega arith;
-        row0 = rw e0 (filled-more _ _ _ _ _ l (ap (λ x. x .p0) e) (w .row0));
-        row1 = rw e1 (filled-more _ _ _ _ _ l (ap (λ x. x .p1) e) (w .row1));
-        row2 = rw e2 (filled-more _ _ _ _ _ l (ap (λ x. x .p2) e) (w .row2));
+        row0 = rw e0 (filled-more _ _ _ _ _ l (ap (λ x. x .p0) d) (w .row0));
+        row1 = rw e1 (filled-more _ _ _ _ _ l (ap (λ x. x .p1) d) (w .row1));
+        row2 = rw e2 (filled-more _ _ _ _ _ l (ap (λ x. x .p2) d) (w .row2));
       }
 
-  pub written-all : {b0 b1 b2 : List ℕ} {i : ℕ} → Written f a0 a1 a2 b0 b1 b2 i → i ≡ length a0
-      → (b0 ≡ rowOf 0 f a0 a1 a2) × ((b1 ≡ rowOf 1 f a0 a1 a2) × (b2 ≡ rowOf 2 f a0 a1 a2))
+  pub written-all : {i : ℕ} → Written f a0 a1 a2 b0 b1 b2 i → i ≡ length a0 → Made f a0 a1 a2 b0 b1 b2
   written-all w e = (filled-all _ _ _ _ e (w .row0), (filled-all _ _ _ _ e (w .row1), filled-all _ _ _ _ e (w .row2)))
-
--- three rows, by what makes them
-abbrev pub Made : (Pixel → Pixel) → List ℕ → List ℕ → List ℕ → List ℕ → List ℕ → List ℕ → Type 0
-Made f a0 a1 a2 b0 b1 b2 = (b0 ≡ rowOf 0 f a0 a1 a2) × ((b1 ≡ rowOf 1 f a0 a1 a2) × (b2 ≡ rowOf 2 f a0 a1 a2))
 
 pub row-same : (k : ℕ) (f g : Pixel → Pixel) (a0 a1 a2 : List ℕ) → ((p : Pixel) → f p ≡ g p) → rowOf k f a0 a1 a2 ≡ rowOf k g a0 a1 a2
 row-same k f g a0 a1 a2 e = tab-same (length a0) _ _ (λ i h. ap (sampleOf k) (e (pixelIn a0 a1 a2 i)))

@@ -10,7 +10,7 @@ use Rattle.pixel.specs.Pixel.{callOf, InsideSource}
 use Rattle.pixel.specs.Ready.{Ready}
 use Rattle.picture.specs.Picture.{Picture, EveryPixel}
 use Rattle.picture.specs.Verdict.{pictureVerdict}
-use Rattle.picture.proofs.Accepted.{Accepted, accepted-of, is-ready, sides-served, pixels-inside}
+use Rattle.picture.proofs.Accepted.{accepted-of, is-ready, sides-served, pixels-inside}
 use Rattle.frame.specs.Frame.{sourceOf, outputOf, frameVerdict}
 use Rattle.frame.proofs.FrameLaws.{done, plane-done, refused, plane-refused}
 use borrow.Author.Needs.{needs}

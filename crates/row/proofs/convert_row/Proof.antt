@@ -1,6 +1,5 @@
 -- `row::convert_row` meets its contract, family by family: what a setting that is not refused has is what each family asks.
-use mathlib.Core.Path.{_≡_, ap, _∙_, subst}
-use Rattle.setting.specs.declared.matrix.Family.the-variants.{Luma}
+use mathlib.Core.Path.{ap, _∙_, subst}
 use Rattle.pixel.specs.Pixel.{preparedFor, preparedBy, convert}
 use Rattle.pixel.specs.Ready.{Agreed}
 use Rattle.pixel.proofs.Facts.{small}

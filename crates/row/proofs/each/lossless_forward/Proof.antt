@@ -1,5 +1,5 @@
 -- `row::each::lossless_forward` meets its contract: with each turn the rows are written one pixel further.
-use mathlib.Core.Path.{_≡_, refl, ap, _∙_, subst, sym}
+use mathlib.Core.Path.{_≡_, refl, sym, subst}
 use Prim.Native.Nat.{_-_}
 use native.Mathlib.Omega.{arith}
 use borrow.Author.Needs.{needs}
@@ -17,7 +17,7 @@ abbrev μ-loop : tie.MeasureT-loop
 μ-loop d a0 a1 a2 b0₀ b1₀ b2₀ i₀ i-end b0 b1 b2 i = i-end - i
 
 loop-holds : tie.Need-loop-holds Inv-loop μ-loop
-loop-holds c = (refl, written-none _ _ _ _ (c .before .before .before .before .before .before .pre .1 .0))
+loop-holds c = (refl, written-none (c .before .before .before .before .before .before .pre .1 .0))
 
 pixel-in-requires : tie.Need-pixel-in-requires Inv-loop μ-loop
 pixel-in-requires c κs = search needs
@@ -39,11 +39,9 @@ loop-less c = search needs
 
 loop-again : tie.Need-loop-again Inv-loop μ-loop
 loop-again c =
-    let t = c .before .before .before .before .before .before in
-    let made = t .before .before .before .before in
-    let l = made .before .before .before .loop in
-    let stored = t .put .ensures in
-    (refl, written-more _ _ _ _ (l .inv .1) (omega arith) (made .lossless-forward .ensures ∙ ap (losslessForward _) (made .before .pixel-in .ensures)) (stored .0) (stored .1 .0) (stored .1 .1))
+    let put = c .before .before .before .before .before .before .put .ensures in
+    let made = c .before .before .before .before .before .before .before .before .before .before in
+    (refl, written-more (made .before .before .before .loop .inv .1) (omega arith) (made .before .pixel-in .ensures) (made .lossless-forward .ensures) (put .0) (put .1 .0) (put .1 .1))
 
 same-length : tie.Need-same-length Inv-loop μ-loop
 same-length c = search needs
@@ -55,7 +53,7 @@ same-length-3 : tie.Need-same-length-3 Inv-loop μ-loop
 same-length-3 c = search needs
 
 returns : tie.Need-returns Inv-loop μ-loop
-returns c = written-all _ _ _ _ (c .before .loop .inv .1) (omega arith)
+returns c = written-all (c .before .loop .inv .1) (omega arith)
 
 pub lossless-forward-spec : {M : Type 1} → statement M
 lossless-forward-spec =

@@ -1,5 +1,5 @@
 -- `row::each::lossy_reverse` meets its contract: with each turn the rows are written one pixel further.
-use mathlib.Core.Path.{_≡_, refl, ap, _∙_}
+use mathlib.Core.Path.{_≡_, refl}
 use Prim.Native.Nat.{_-_}
 use native.Mathlib.Omega.{arith}
 use borrow.Author.Needs.{needs}
@@ -16,7 +16,7 @@ abbrev μ-loop : tie.MeasureT-loop
 μ-loop d a0 a1 a2 b0₀ b1₀ b2₀ i₀ i-end b0 b1 b2 i = i-end - i
 
 loop-holds : tie.Need-loop-holds Inv-loop μ-loop
-loop-holds c = (refl, written-none _ _ _ _ (c .before .before .before .before .before .before .pre .1))
+loop-holds c = (refl, written-none (c .before .before .before .before .before .before .pre .1))
 
 pixel-in-requires : tie.Need-pixel-in-requires Inv-loop μ-loop
 pixel-in-requires c κs = search needs
@@ -35,11 +35,9 @@ loop-less c = search needs
 
 loop-again : tie.Need-loop-again Inv-loop μ-loop
 loop-again c =
-    let t = c .before .before .before .before .before .before in
-    let made = t .before .before .before .before in
-    let l = made .before .before .before .loop in
-    let stored = t .put .ensures in
-    (refl, written-more _ _ _ _ (l .inv .1) (omega arith) (made .lossy-reverse .ensures ∙ ap (lossyReverse _) (made .before .pixel-in .ensures)) (stored .0) (stored .1 .0) (stored .1 .1))
+    let put = c .before .before .before .before .before .before .put .ensures in
+    let made = c .before .before .before .before .before .before .before .before .before .before in
+    (refl, written-more (made .before .before .before .loop .inv .1) (omega arith) (made .before .pixel-in .ensures) (made .lossy-reverse .ensures) (put .0) (put .1 .0) (put .1 .1))
 
 same-length : tie.Need-same-length Inv-loop μ-loop
 same-length c = search needs
@@ -51,7 +49,7 @@ same-length-3 : tie.Need-same-length-3 Inv-loop μ-loop
 same-length-3 c = search needs
 
 returns : tie.Need-returns Inv-loop μ-loop
-returns c = written-all _ _ _ _ (c .before .loop .inv .1) (omega arith)
+returns c = written-all (c .before .loop .inv .1) (omega arith)
 
 pub lossy-reverse-spec : {M : Type 1} → statement M
 lossy-reverse-spec =
