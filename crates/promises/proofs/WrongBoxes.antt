@@ -10,7 +10,18 @@ use Rattle.refusal.specs.declared.Refusal.{Refusal}
 use Rattle.setting.specs.Label.{among, labelled, labelNumber, primariesLabel, transferLabel, matrixLabel}
 use Rattle.setting.specs.Matrix.{matrixOf}
 use Rattle.pixel.specs.declared.Way.the-variants.{Forward, Reverse}
-use Rattle.corkplover.specs.Answers.{pixelAnswer}
+use Rattle.corkplover.specs.Answers.{pixelAnswer, sourceAnswer}
+use Rattle.corkplover.specs.declared.one_pixel.SourceAnswer.the-variants as source
+use Rattle.corkplover.specs.Admit.{admitted}
+use Rattle.whole.specs.Whole.{half, clip, sample}
+use Rattle.sample.specs.Depth.{isDepth, areDepths, atMost}
+use Rattle.refusal.specs.Table.{first}
+use Rattle.plane.specs.First.{orElse, firstOf, placeIf, placeInRow, firstPlace, firstBad, badSample}
+use Rattle.ycgco.specs.YCgCo.{losslessForward, losslessReverse}
+use Rattle.setting.specs.Agreement.{depthsServed}
+use Rattle.setting.specs.Refusals.{refusalOf, judged}
+use Rattle.pixel.specs.Pixel.{convert}
+use Rattle.pixel.specs.Source.{hasSource}
 use Rattle.corkplover.specs.declared.one_pixel.PixelAnswer.{PixelAnswer}
 use Rattle.corkplover.specs.declared.one_pixel.PixelAnswer.the-variants.{Converted, Refused}
 use Rattle.promises.proofs.Marked.{with, pixel, is, answers, table, marked}
@@ -67,3 +78,12 @@ reverse-copies e = let q = apart back e in omega arith
 pub fixed-colour : (p : Pixel) → pixelAnswer Forward (with 8 8 8 9 true true) (pixel 255 0 0) ≡ Converted p
     → pixelAnswer Forward (with 8 8 8 9 true true) (pixel 0 255 0) ≡ Converted p → ⊥
 fixed-colour p e f = let q = apart red e in let r = apart green f in omega arith
+
+-- a source check that always says yes, or never: the red pixel has a source, the other would need a negative blue
+pub red-has-source : sourceAnswer (with 8 8 8 9 true true) (pixel 63 129 511) ≡ source.Yes
+unfolding sourceAnswer admitted refusalOf judged first matrixOf labelled among depthsServed areDepths isDepth atMost badSample firstBad firstPlace placeInRow placeIf firstOf orElse hasSource convert losslessForward losslessReverse half clip sample
+red-has-source = refl
+
+pub none-has-source : sourceAnswer (with 8 8 8 9 true true) (pixel 0 256 511) ≡ source.NoSource
+unfolding sourceAnswer admitted refusalOf judged first matrixOf labelled among depthsServed areDepths isDepth atMost badSample firstBad firstPlace placeInRow placeIf firstOf orElse hasSource convert losslessForward losslessReverse half clip sample
+none-has-source = refl
