@@ -8,13 +8,32 @@ mod setting;
 
 use corkplover as cork;
 use setting::{Setting, Way};
-use std::time::Instant;
 
 const WIDTH: usize = 1920;
 const HEIGHT: usize = 1080;
 const LENGTH: usize = WIDTH * HEIGHT;
 
 type Planes = [Vec<u16>; 3];
+
+/// C's struct timespec on 64-bit Linux.
+#[repr(C)]
+struct Time {
+    seconds: i64,
+    nanoseconds: i64,
+}
+
+extern "C" {
+    fn clock_gettime(clock: i32, time: *mut Time) -> i32;
+}
+
+/// Seconds that this thread has spent on the processor: other programs on the machine don't count.
+fn processor_time() -> f64 {
+    const OF_THIS_THREAD: i32 = 3;
+    let mut time = Time { seconds: 0, nanoseconds: 0 };
+    let failed = unsafe { clock_gettime(OF_THIS_THREAD, &mut time) };
+    assert!(failed == 0, "no clock");
+    time.seconds as f64 + time.nanoseconds as f64 * 1e-9
+}
 
 fn planes() -> Planes {
     [(); 3].map(|_| vec![0; LENGTH])
@@ -62,9 +81,9 @@ fn time_box(s: &Setting, way: Way, [a, b, c]: &Planes, to: &mut Planes) -> f64 {
     let source = cork::Source { planes: [a, b, c], stride: WIDTH };
     let mut output = cork::Output { planes: [x, y, z], stride: WIDTH };
     let convert = if way == Way::Forward { cork::forward_frame } else { cork::reverse_frame };
-    let start = Instant::now();
+    let start = processor_time();
     convert(&s, WIDTH, HEIGHT, source, &mut output).expect("an accepted frame");
-    start.elapsed().as_secs_f64()
+    processor_time() - start
 }
 
 /// The same of the plain converter.
@@ -73,9 +92,9 @@ fn time_plain(s: &Setting, way: Way, [a, b, c]: &Planes, to: &mut Planes) -> f64
     let [x, y, z] = to;
     let source = frame::Source { planes: [a, b, c], stride: WIDTH };
     let mut output = frame::Output { planes: [x, y, z], stride: WIDTH };
-    let start = Instant::now();
+    let start = processor_time();
     frame::convert(s, way, WIDTH, HEIGHT, &source, &mut output).expect("an accepted frame");
-    start.elapsed().as_secs_f64()
+    processor_time() - start
 }
 
 /// The same of the converter for code 1 alone.
@@ -83,9 +102,9 @@ fn time_literal(way: Way, [a, b, c]: &Planes, to: &mut Planes) -> f64 {
     clear(to);
     let [x, y, z] = to;
     let convert = if way == Way::Forward { literal::forward } else { literal::reverse };
-    let start = Instant::now();
+    let start = processor_time();
     convert([a, b, c], x, y, z);
-    start.elapsed().as_secs_f64()
+    processor_time() - start
 }
 
 fn median(mut times: Vec<f64>) -> f64 {
@@ -122,7 +141,7 @@ fn main() {
     let code_1 =
         Setting { primaries: 1, transfer: 1, matrix: 1, rgb_depth: 8, y_depth: 8, c_depth: 8, rgb_full: true, ycc_full: true };
     let code_8 = Setting { matrix: 8, c_depth: 9, ..code_1 };
-    println!("{} by {}, {} repetitions in turns, medians", WIDTH, HEIGHT, repetitions);
+    println!("{} by {}, {} repetitions in turns, medians of the time on the processor", WIDTH, HEIGHT, repetitions);
     let ycc = measure("code 1, 8 bits, forward", &code_1, Way::Forward, &rgb, repetitions);
     measure("code 1, 8 bits, reverse", &code_1, Way::Reverse, &ycc, repetitions);
     let ycc = measure("lossless code 8, forward", &code_8, Way::Forward, &rgb, repetitions);
