@@ -1,5 +1,8 @@
 -- What the code has room for in 64 bits. Round works with twice a numerator and once a denominator.
+use mathlib.Core.Path.{_≡_}
 use Prim.Native.Nat.{ℕ, _+_, _*_, _≤_, _<_}
+use Rattle.whole.specs.Quotient.{Divides}
+use Rattle.whole.specs.declared.quotient.Divisor.{Divisor}
 use Rattle.levels.specs.Luma.{mostSample}
 use Rattle.levels.specs.declared.Scale.{Scale}
 use Rattle.levels.specs.declared.Line.{Line}
@@ -58,3 +61,8 @@ pub record Rooms (l : Lines) : Type 0 where
   pub first : Room (l .first)
   pub second : Room (l .second)
   pub third : Room (l .third)
+
+-- what stands for the divisor of a line, which is twice its denominator
+pub record StandsFor (l : Line) (d : Divisor) : Type 0 where
+  pub divides : Divides d
+  pub twice : d .over ≡ 2 * l .row .over

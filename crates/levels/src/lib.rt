@@ -1,6 +1,7 @@
 // The luma matrices, for a setting prepared once. The printed formulas over exact fractions are the definition. The code has one
 // form for all six samples: three signed weights over one denominator, one Round, one Clip.
-pub mod prepared;
+pub mod by_lines;
+mod prepared;
 mod rows;
 
 use rows::Row;
@@ -186,7 +187,7 @@ pub fn forward(s: LumaSetting, lines: Lines, p: Pixel) -> Pixel
     requires { ⌜ SamplesServed p ⌝ }
     ensures { λ r. ⌜ r ≡ lumaForward s p ⌝ }
 {
-    prepared::pixel_of(lines, p)
+    by_lines::pixel_of(lines, p)
 }
 
 // A pixel of Y, Cb, Cr to R, G, B, by the lines of its setting.
@@ -196,5 +197,5 @@ pub fn reverse(s: LumaSetting, lines: Lines, p: Pixel) -> Pixel
     requires { ⌜ SamplesServed p ⌝ }
     ensures { λ r. ⌜ r ≡ lumaReverse s p ⌝ }
 {
-    prepared::pixel_of(lines, p)
+    by_lines::pixel_of(lines, p)
 }

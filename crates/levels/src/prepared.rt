@@ -1,15 +1,12 @@
 // A row, the samples that it reads and the plane that it writes, brought together in one line before any pixel is met.
 use crate::Line;
-use crate::Lines;
 use crate::Scale;
 use crate::rows::Row;
-use sample::Pixel;
 ghost use mathlib.Core.Path.{_≡_};
 ghost use Rattle.sample.specs.Depth.{Depth};
 ghost use Rattle.sample.specs.Depth.{M};
-ghost use Rattle.levels.specs.Luma.{SamplesServed};
-ghost use Rattle.levels.specs.Lines.{targetOf, sourcesOfRgb, sourcesOfYcc, spread, lineOf, sampleOf, pixelOf};
-ghost use Rattle.levels.specs.Room.{ScaleServed, SpreadServed, LineServed, Room, Rooms};
+ghost use Rattle.levels.specs.Lines.{targetOf, sourcesOfRgb, sourcesOfYcc, spread, lineOf};
+ghost use Rattle.levels.specs.Room.{ScaleServed, SpreadServed, LineServed};
 
 // How a level E is written: Clip(Round(times E + plus) + mid) into 0..top.
 pub struct Target {
@@ -170,45 +167,4 @@ pub fn line_of(w: Row, from: Sources, to: Target) -> Line
         mid,
         top,
     }
-}
-
-// One sample by its line. All six kinds of sample come from here.
-pub fn sample_of(l: Line, p: Pixel) -> u16
-    requires { ⌜ Room l ⌝ }
-    requires { ⌜ SamplesServed p ⌝ }
-    ensures { λ r. ⌜ r ≡ sampleOf l p ⌝ }
-{
-    let row = l.row;
-    let up = l.up;
-    let down = l.down;
-    let mid = l.mid;
-    let top = l.top;
-    let u0 = row.up0;
-    let u1 = row.up1;
-    let u2 = row.up2;
-    let d0 = row.down0;
-    let d1 = row.down1;
-    let d2 = row.down2;
-    let den = row.over;
-    let x = p.p0 as u64;
-    let y = p.p1 as u64;
-    let z = p.p2 as u64;
-    let plus = u0 * x + u1 * y + u2 * z + up;
-    let minus = d0 * x + d1 * y + d2 * z + down;
-    whole::round_clip(plus, minus, den, mid, top)
-}
-
-// The three samples of a pixel.
-pub fn pixel_of(lines: Lines, p: Pixel) -> Pixel
-    requires { ⌜ Rooms lines ⌝ }
-    requires { ⌜ SamplesServed p ⌝ }
-    ensures { λ r. ⌜ r ≡ pixelOf lines p ⌝ }
-{
-    let first = lines.first;
-    let second = lines.second;
-    let third = lines.third;
-    let p0 = sample_of(first, p);
-    let p1 = sample_of(second, p);
-    let p2 = sample_of(third, p);
-    Pixel { p0, p1, p2 }
 }

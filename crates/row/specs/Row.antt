@@ -18,9 +18,12 @@ sampleOf k p = getD (p .p0 ∷ p .p1 ∷ p .p2 ∷ []) k 0
 abbrev pub converted : ℕ → (Pixel → Pixel) → List ℕ → List ℕ → List ℕ → ℕ → ℕ
 converted k f a0 a1 a2 i = sampleOf k (f (pixelIn a0 a1 a2 i))
 
--- row k of the three that f makes of a row
+-- the row of samples that g makes of a row, and row k of the three that f makes of it
+abbrev pub rowBy : (Pixel → ℕ) → List ℕ → List ℕ → List ℕ → List ℕ
+rowBy g a0 a1 a2 = tab (length a0) (λ (i : ℕ). g (pixelIn a0 a1 a2 i))
+
 abbrev pub rowOf : ℕ → (Pixel → Pixel) → List ℕ → List ℕ → List ℕ → List ℕ
-rowOf k f a0 a1 a2 = tab (length a0) (converted k f a0 a1 a2)
+rowOf k f a0 a1 a2 = rowBy (λ (p : Pixel). sampleOf k (f p)) a0 a1 a2
 
 -- a fact of every pixel of a row
 abbrev pub Every : (Pixel → Type 0) → List ℕ → List ℕ → List ℕ → Type 0

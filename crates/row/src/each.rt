@@ -4,10 +4,11 @@ ghost use Prim.Native.Nat.{_<_};
 ghost use lib.ListN.{length, set};
 ghost use Rattle.sample.specs.Depth.{InsideRGB};
 ghost use Rattle.ycgco.specs.YCgCo.{lossyForward, lossyReverse, losslessForward, losslessReverse, Plain, Roomy};
-ghost use Rattle.levels.specs.Lines.{pixelOf};
-ghost use Rattle.levels.specs.Room.{Rooms};
+ghost use Rattle.levels.specs.Lines.{sampleOf, pixelOf};
+ghost use Rattle.levels.specs.Room.{Room, Rooms};
 ghost use Rattle.levels.specs.Luma.{SamplesServed};
-ghost use Rattle.row.specs.Row.{pixelIn, rowOf, Every, Abreast};
+ghost use Rattle.row.specs.Row.{pixelIn, rowBy, rowOf, Every, Abreast};
+use levels::Line;
 use levels::Lines;
 use sample::Depths;
 use sample::Pixel;
@@ -71,7 +72,23 @@ pub fn copy_three(
     copy(a2, b2);
 }
 
-// The luma matrices, either way: the prepared lines say which.
+// One plane of the luma matrices, either way: the prepared line says which.
+fn luma_plane(line: Line, a0: &[u16], a1: &[u16], a2: &[u16], b: &mut [u16])
+    requires { ⌜ Room line ⌝ }
+    requires { ⌜ length (now a1) ≡ length (now a0) ⌝ }
+    requires { ⌜ length (now a2) ≡ length (now a0) ⌝ }
+    requires { ⌜ length (now b) ≡ length (now a0) ⌝ }
+    requires { ⌜ Every SamplesServed (now a0) (now a1) (now a2) ⌝ }
+    ensures { λ _. ⌜ now (b .exit) ≡ rowBy (sampleOf line) (now (a0 .entry)) (now (a1 .entry)) (now (a2 .entry)) ⌝ }
+{
+    let by = levels::by_lines::divisor_of(line);
+    for i in 0..a0.len() {
+        let p = pixel_in(a0, a1, a2, i);
+        b[i] = levels::by_lines::sample_by(line, by, p);
+    }
+}
+
+// The luma matrices, a plane at a time, so that one line's numbers stay at hand.
 pub fn luma(
     lines: Lines,
     a0: &[u16],
@@ -88,11 +105,9 @@ pub fn luma(
     ensures { λ _. ⌜ now (b1 .exit) ≡ rowOf 1 (pixelOf lines) (now (a0 .entry)) (now (a1 .entry)) (now (a2 .entry)) ⌝ }
     ensures { λ _. ⌜ now (b2 .exit) ≡ rowOf 2 (pixelOf lines) (now (a0 .entry)) (now (a1 .entry)) (now (a2 .entry)) ⌝ }
 {
-    for i in 0..a0.len() {
-        let p = pixel_in(a0, a1, a2, i);
-        let q = levels::prepared::pixel_of(lines, p);
-        put(b0, b1, b2, i, q);
-    }
+    luma_plane(lines.first, a0, a1, a2, b0);
+    luma_plane(lines.second, a0, a1, a2, b1);
+    luma_plane(lines.third, a0, a1, a2, b2);
 }
 
 // The lossy formulas, forward.

@@ -62,29 +62,23 @@ signed-fits {w} {z} r l u = record { sfits = magnitude z (r .plus) (r .minus) (2
 pub reads-back : (w : Width) {z : ℤ} (r : Parts z) → r .plus < r .minus + 2 ^ hbits w → r .minus ≤ r .plus + 2 ^ hbits w → toZ w (ofZ w z) ≡ z
 reads-back w {z} r l u = toZ-ofZ w z (signed-fits r l u)
 
--- Clip, of a number within 0..top, at or below 0, at or above top
-within : (top n : ℕ) → n ≤ top → clip top (pos n) ≡ n
+-- Clip, in the two parts, and what that is within 0..top, at or below 0, at or above top
+clip-holds : (top : ℕ) (z : ℤ) (a b : ℕ) → Holds z a b → clip top z ≡ min (a - b) top
 unfolding clip
-within top n l = omega arith
+clip-holds top (pos n) a b h = omega arith
+clip-holds top (negsuc n) a b h = omega arith
+
+pub clip-of : (top : ℕ) {z : ℤ} (r : Parts z) → clip top z ≡ min (r .plus - r .minus) top
+clip-of top {z} r = clip-holds top z (r .plus) (r .minus) (r .holds)
 
 pub clip-within : (top n : ℕ) {z : ℤ} (r : Parts z) → n + r .minus ≡ r .plus → n ≤ top → clip top z ≡ n
-clip-within top n r e l = ap (clip top) (sym (is-pos n r e)) ∙ within top n l
-
-below : (top : ℕ) (z : ℤ) (a b : ℕ) → Holds z a b → a ≤ b → clip top z ≡ 0
-unfolding clip
-below top (pos n) a b h l = omega arith
-below top (negsuc n) a b h l = refl
+clip-within top n r e l = let is = clip-of top r in omega arith
 
 pub clip-low : (top : ℕ) {z : ℤ} (r : Parts z) → r .plus ≤ r .minus → clip top z ≡ 0
-clip-low top {z} r l = below top z (r .plus) (r .minus) (r .holds) l
-
-above : (top : ℕ) (z : ℤ) (a b : ℕ) → Holds z a b → top + b ≤ a → clip top z ≡ top
-unfolding clip
-above top (pos n) a b h l = omega arith
-above top (negsuc n) a b h l = absurd (omega arith)
+clip-low top r l = let is = clip-of top r in omega arith
 
 pub clip-high : (top : ℕ) {z : ℤ} (r : Parts z) → top + r .minus ≤ r .plus → clip top z ≡ top
-clip-high top {z} r l = above top z (r .plus) (r .minus) (r .holds) l
+clip-high top r l = let is = clip-of top r in omega arith
 
 pub clip-most : (top : ℕ) (z : ℤ) → clip top z ≤ top
 unfolding clip

@@ -2,3 +2,5 @@
 pub mod Difference
 pub mod Closers
 pub mod Edges
+pub mod Quotients
+pub mod Rounding

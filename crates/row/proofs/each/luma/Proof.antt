@@ -1,73 +1,45 @@
--- `row::each::luma` meets its contract: with each turn the rows are written one pixel further.
-use mathlib.Core.Path.{_≡_, refl, sym, subst}
-use Prim.Native.Nat.{_-_}
-use native.Mathlib.Omega.{arith}
+-- `row::each::luma` meets its contract, plane by plane.
 use borrow.Author.Needs.{needs}
-use lib.ListN.{length}
-use Rattle.levels.specs.Luma.{SamplesServed}
-use Rattle.levels.specs.Lines.{pixelOf}
-use Rattle.row.proofs.RowLaws.{Written, written-none, written-more, written-all}
 use Rattle.row.proofs.each.luma.Statement.{statement}
 use Rattle.row.proofs.each.luma.Tie as tie
 
-abbrev Inv-loop : tie.InvT-loop
-Inv-loop lines a0 a1 a2 b0₀ b1₀ b2₀ i₀ i-end b0 b1 b2 i = (i-end ≡ length a0) × Written (pixelOf lines) a0 a1 a2 b0 b1 b2 i
+luma-plane-requires : tie.Need-luma-plane-requires
+luma-plane-requires c κs =
+    let p = c .before .before .before .before .before .before .before .pre in
+    let a = p .1 .0 in
+    (p .0 .first, (a .a1-long, (a .a2-long, (a .b0-long, p .1 .1))))
 
-abbrev μ-loop : tie.MeasureT-loop
-μ-loop lines a0 a1 a2 b0₀ b1₀ b2₀ i₀ i-end b0 b1 b2 i = i-end - i
+luma-plane-requires-2 : tie.Need-luma-plane-requires-2
+luma-plane-requires-2 c κs =
+    let p = c .before .before .before .before .before .before .before .before .before .before .before .pre in
+    let a = p .1 .0 in
+    (p .0 .second, (a .a1-long, (a .a2-long, (a .b1-long, p .1 .1))))
 
-loop-holds : tie.Need-loop-holds Inv-loop μ-loop
-loop-holds c = (refl, written-none (c .before .before .before .before .before .before .pre .1 .0))
+luma-plane-requires-3 : tie.Need-luma-plane-requires-3
+luma-plane-requires-3 c κs =
+    let p = c .before .before .before .before .before .before .before .before .before .before .before .before .before .before .before .pre in
+    let a = p .1 .0 in
+    (p .0 .third, (a .a1-long, (a .a2-long, (a .b2-long, p .1 .1))))
 
-pixel-in-requires : tie.Need-pixel-in-requires Inv-loop μ-loop
-pixel-in-requires c κs = search needs
-
-pixel-of-requires : tie.Need-pixel-of-requires Inv-loop μ-loop
-pixel-of-requires c κs =
-    let s = c .before .before .before .before .before .before .before .before .before in
-    let inside = s .pre .1 .1 (c .before .before .loop .i) (omega arith) in
-    (s .pre .0, subst SamplesServed (sym (c .pixel-in .ensures)) inside)
-
-put-requires : tie.Need-put-requires Inv-loop μ-loop
-put-requires c κs = search needs
-
-add-i : tie.Need-add-i Inv-loop μ-loop
-add-i c = omega (arith, c .before .before .before .before .before .before .before .before .before .before .before .before)
-
-loop-less : tie.Need-loop-less Inv-loop μ-loop
-loop-less c = search needs
-
-loop-again : tie.Need-loop-again Inv-loop μ-loop
-loop-again c =
-    let put = c .before .before .before .before .before .before .put .ensures in
-    let made = c .before .before .before .before .before .before .before .before .before .before in
-    (refl, written-more (made .before .before .before .loop .inv .1) (omega arith) (made .before .pixel-in .ensures) (made .pixel-of .ensures) (put .0) (put .1 .0) (put .1 .1))
-
-same-length : tie.Need-same-length Inv-loop μ-loop
+same-length : tie.Need-same-length
 same-length c = search needs
 
-same-length-2 : tie.Need-same-length-2 Inv-loop μ-loop
+same-length-2 : tie.Need-same-length-2
 same-length-2 c = search needs
 
-same-length-3 : tie.Need-same-length-3 Inv-loop μ-loop
+same-length-3 : tie.Need-same-length-3
 same-length-3 c = search needs
 
-returns : tie.Need-returns Inv-loop μ-loop
-returns c = written-all (c .before .loop .inv .1) (omega arith)
+returns : tie.Need-returns
+returns c = (c .before .before .before .before .before .before .before .before .before .before .luma-plane .ensures, (c .before .before .before .before .before .before .luma-plane2 .ensures, c .before .before .luma-plane3 .ensures))
 
 pub luma-spec : {M : Type 1} → statement M
 luma-spec =
     tie.close
     (tie.spec
-    Inv-loop
-    μ-loop
-    loop-holds
-    pixel-in-requires
-    pixel-of-requires
-    put-requires
-    add-i
-    loop-less
-    loop-again
+    luma-plane-requires
+    luma-plane-requires-2
+    luma-plane-requires-3
     same-length
     same-length-2
     same-length-3

@@ -1,7 +1,7 @@
--- `levels::prepared::pixel_of` meets its contract, plane by plane.
+-- `levels::by_lines::pixel_of` meets its contract, plane by plane.
 use borrow.Author.Needs.{needs}
-use Rattle.levels.proofs.prepared.pixel_of.Statement.{statement}
-use Rattle.levels.proofs.prepared.pixel_of.Tie as tie
+use Rattle.levels.proofs.by_lines.pixel_of.Statement.{statement}
+use Rattle.levels.proofs.by_lines.pixel_of.Tie as tie
 
 sample-of-requires : tie.Need-sample-of-requires
 sample-of-requires c κs = search needs

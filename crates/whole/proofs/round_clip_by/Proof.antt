@@ -1,0 +1,71 @@
+-- `whole::round_clip_by` meets its contract as `round_clip` does: a quotient that stops at 65,536 is past every top.
+use mathlib.Core.Path.{_≡_, ap, _∙_}
+use Prim.Native.Nat.{ℕ, _*_, _/_, min}
+use native.Mathlib.Omega.{arith}
+use borrow.Author.Needs.{needs}
+use Rattle.whole.proofs.Rounding.{below-zero, from-zero}
+use Rattle.whole.proofs.round_clip_by.Statement.{statement}
+use Rattle.whole.proofs.round_clip_by.Tie as tie
+
+-- the quotient by what stands for twice the denominator
+by-twice : (n over den r : ℕ) → over ≡ 2 * den → r ≡ min (n / over) 65536 → min r 65536 ≡ min (n / (2 * den)) 65536
+by-twice n over den r e is = let same : n / over ≡ n / (2 * den) = ap (λ d. n / d) e in omega arith
+
+sub-quotient : tie.Need-sub-quotient
+sub-quotient c = search needs
+
+mul-quotient : tie.Need-mul-quotient
+mul-quotient c = search needs
+
+add-quotient : tie.Need-add-quotient
+add-quotient c = search needs
+
+quotient-requires : tie.Need-quotient-requires
+quotient-requires c κs = search needs
+
+lowered-requires : tie.Need-lowered-requires
+lowered-requires c κs = search needs
+
+returns : tie.Need-returns
+returns c =
+    let s = c .before .before .before in
+    let a = s .args in
+    c .lowered .ensures
+    ∙ below-zero (a .p) (a .q) (a .den) (a .mid) (a .top) _ (omega arith) (omega arith) (omega arith)
+    (by-twice _ (a .by .over) (a .den) _ (s .pre .1 .1) (c .before .quotient .ensures))
+
+mul-quotient-2 : tie.Need-mul-quotient-2
+mul-quotient-2 c = search needs
+
+add-quotient-2 : tie.Need-add-quotient-2
+add-quotient-2 c = search needs
+
+quotient-requires-2 : tie.Need-quotient-requires-2
+quotient-requires-2 c κs = search needs
+
+raised-requires : tie.Need-raised-requires
+raised-requires c κs = search needs
+
+returns-2 : tie.Need-returns-2
+returns-2 c =
+    let s = c .before .before .before in
+    let a = s .args in
+    c .raised .ensures
+    ∙ from-zero (a .p) (a .q) (a .den) (a .mid) (a .top) _ (omega arith) (omega arith) (omega arith)
+    (by-twice _ (a .by .over) (a .den) _ (s .pre .1 .1) (c .before .quotient2 .ensures))
+
+pub round-clip-by-spec : {M : Type 1} → statement M
+round-clip-by-spec =
+    tie.close
+    (tie.spec
+    sub-quotient
+    mul-quotient
+    add-quotient
+    quotient-requires
+    lowered-requires
+    returns
+    mul-quotient-2
+    add-quotient-2
+    quotient-requires-2
+    raised-requires
+    returns-2)
