@@ -37,7 +37,7 @@ fn usage() {
     say(b"  cork forward 1 1 8 8 8 9 full full 255 0 0\n");
 }
 
-// What was expected of a word, by the front desk's number.
+// What was expected of a word, by the front desk's number, where any was.
 fn expected(n: u8) {
     match n {
         0 => say(b"forward, reverse, source, meter or label"),
@@ -57,15 +57,27 @@ fn expected(n: u8) {
         14 => say(b"the Cr sample, a number from 0 to 65535"),
         15 => say(b"y, cb or cr, or the Y sample from 0 to 65535"),
         16 => say(b"primaries, transfer or matrix"),
-        17 => say(b"a code, a number from 0 to 255"),
-        _ => say(b"no more words"),
+        _ => say(b"a code, a number from 0 to 255"),
     }
 }
 
-fn fault(word: u8, n: u8) {
+// The word at which reading stopped, and what was expected of it.
+fn fault(words: &[u8], word: u8, n: u8) {
     say(b"word ");
     number(word as u64 + 1);
-    say(b" is not what belongs there; expected: ");
+    if reading::has_word(words, GAP, word) {
+        say(b", '");
+        say(reading::word_at(words, GAP, word));
+        say(b"',");
+        if n == form::NO_MORE {
+            say(b" is one too many\n");
+            return;
+        }
+        say(b" is not what belongs there");
+    } else {
+        say(b" is missing");
+    }
+    say(b"; expected: ");
     expected(n);
     say(b"\n");
 }
@@ -204,20 +216,21 @@ fn source(found: bool) {
     say(b"none: no RGB pixel within depth converts to this one\n");
 }
 
-fn asked(forward: bool, a: Asked) {
+fn asked(words: &[u8], forward: bool, a: Asked) {
     match a {
         Asked::For(request) => answer(forward, desk::ask::ask(request)),
-        Asked::Fault { word, expected } => fault(word, expected),
+        Asked::Fault { word, expected } => fault(words, word, expected),
     }
 }
 
 fn on_label(words: &[u8]) {
     let place = reading::place_at(words, GAP, 1, b"primaries transfer matrix");
     if 2 < place {
-        fault(1, form::CODE_KIND);
+        fault(words, 1, form::CODE_KIND);
         return;
     }
     asked(
+        words,
         true,
         form::label_form(form::code_kind_of(place), words, GAP, 2),
     );
@@ -226,10 +239,11 @@ fn on_label(words: &[u8]) {
 fn on_meter(words: &[u8]) {
     let place = reading::place_at(words, GAP, 9, b"y cb cr");
     if 2 < place {
-        asked(true, form::pixel_form(Call::Meter, words, GAP));
+        asked(words, true, form::pixel_form(Call::Meter, words, GAP));
         return;
     }
     asked(
+        words,
         true,
         form::sample_form(form::kind_of(place), words, GAP, 10),
     );
@@ -238,19 +252,24 @@ fn on_meter(words: &[u8]) {
 fn on_words(words: &[u8]) {
     let verb = reading::place_at(words, GAP, 0, b"forward reverse source meter label");
     match verb {
-        0 => asked(true, form::pixel_form(Call::Forward, words, GAP)),
-        1 => asked(false, form::pixel_form(Call::Reverse, words, GAP)),
-        2 => asked(true, form::pixel_form(Call::ImageCheck, words, GAP)),
+        0 => asked(words, true, form::pixel_form(Call::Forward, words, GAP)),
+        1 => asked(words, false, form::pixel_form(Call::Reverse, words, GAP)),
+        2 => asked(words, true, form::pixel_form(Call::ImageCheck, words, GAP)),
         3 => on_meter(words),
         4 => on_label(words),
-        _ => fault(0, form::VERB),
+        _ => fault(words, 0, form::VERB),
     }
 }
 
-// One word of the command line, at the end of those before it.
+// One word of the command line, at the end of those before it. For a word that is longer than `one` `os::arg` answers 0 and leaves its
+// beginning there: that goes on with two dots, as no word does that belongs anywhere.
 fn word(i: usize, words: &mut [u8], at: usize) -> usize {
     let mut one = [0u8; 64];
     let n = os::arg(i, &mut one);
+    if n == 0 && one[0] != 0 {
+        let cut = text::writing::put(words, at, &one);
+        return text::writing::put(words, cut, b"..\0");
+    }
     let next = text::writing::put(words, at, &one[..n]);
     text::writing::put(words, next, b"\0")
 }
