@@ -34,7 +34,8 @@ fn usage() {
     say(
         b"Y depth and C depth in bits, then full or narrow for RGB and for YCbCr. For example:\n\n",
     );
-    say(b"  cork forward 1 1 8 8 8 9 full full 255 0 0\n");
+    say(b"  cork forward 1 1 8 8 8 9 full full 255 0 0\n\n");
+    say(b"Status: 0 for an answer, 1 for a refusal, 2 for words that were not understood.\n");
 }
 
 // What was expected of a word, by the front desk's number, where any was.
