@@ -49,6 +49,16 @@ fn span_of(s: &[u8], gap: u8, n: u8) -> Span
     Span { start: end, end }
 }
 
+// Word n, or an empty part where there is none.
+pub fn word_at(s: &[u8], gap: u8, n: u8) -> &[u8]
+    ensures { λ r. ⌜ now r ≡ wordOf gap (now (s .entry)) n ⌝ }
+{
+    let w = span_of(s, gap, n);
+    let start = w.start;
+    let end = w.end;
+    &s[start..end]
+}
+
 pub fn has_word(s: &[u8], gap: u8, n: u8) -> bool
     ensures { λ r. ⌜ r ≡ ltb n (length (split gap (now (s .entry)))) ⌝ }
 {
@@ -106,27 +116,18 @@ pub fn number_in(word: &[u8], most: u16) -> Number
 pub fn number_at(s: &[u8], gap: u8, n: u8, most: u16) -> Number
     ensures { λ r. ⌜ r ≡ numberOf (wordOf gap (now (s .entry)) n) most ⌝ }
 {
-    let w = span_of(s, gap, n);
-    let start = w.start;
-    let end = w.end;
-    number_in(&s[start..end], most)
+    number_in(word_at(s, gap, n), most)
 }
 
 pub fn place_at(s: &[u8], gap: u8, n: u8, names: &[u8]) -> usize
     ensures { λ r. ⌜ r ≡ indexIn (wordOf gap (now (s .entry)) n) (split 32 (now (names .entry))) ⌝ }
 {
-    let w = span_of(s, gap, n);
-    let start = w.start;
-    let end = w.end;
-    place_among(names, &s[start..end])
+    place_among(names, word_at(s, gap, n))
 }
 
 // Writes word n into a buffer.
 pub fn put_word(out: &mut [u8], at: usize, s: &[u8], gap: u8, n: u8) -> usize
     ensures { λ r. ⌜ Wrote (now (out .entry)) at (wordOf gap (now (s .entry)) n) (now (out .exit)) r ⌝ }
 {
-    let w = span_of(s, gap, n);
-    let start = w.start;
-    let end = w.end;
-    crate::writing::put(out, at, &s[start..end])
+    crate::writing::put(out, at, word_at(s, gap, n))
 }

@@ -1,6 +1,7 @@
 -- `desk::ask::ask_pixel` meets its contract: each call goes to its entry point, and the levels of a pixel are numbers.
-use mathlib.Core.Path.{sym, ap, _∙_, subst}
-use Rattle.desk.specs.Answers.{NumbersIn, ofPixel, ofSource, ofLevels}
+use mathlib.Core.Path.{sym, ap, _∙_}
+use native.Mathlib.Omega.{arith}
+use Rattle.desk.specs.Answers.{ofPixel, ofSource, ofLevels}
 use Rattle.desk.proofs.LevelLaws.{levels-numbers}
 use borrow.Author.Needs.{needs}
 use Rattle.desk.proofs.ask.ask_pixel.Statement.{statement}
@@ -31,7 +32,7 @@ meter-pixel-requires : tie.Need-meter-pixel-requires
 meter-pixel-requires c κs = search needs
 
 of-levels-requires : tie.Need-of-levels-requires
-of-levels-requires c κs = subst NumbersIn (sym (c .meter-pixel .ensures)) (levels-numbers _ _)
+of-levels-requires c κs = levels-numbers _ _ (omega arith) (omega arith) (omega arith) _ (sym (c .meter-pixel .ensures))
 
 enum-told-4 : tie.Need-enum-told-4
 enum-told-4 c = search needs

@@ -1,7 +1,7 @@
 -- `desk::ask::ask_sample` meets its contract: the level of a sample is a number.
-use mathlib.Core.Path.{sym, ap, _∙_, subst}
+use mathlib.Core.Path.{sym, ap, _∙_}
 use native.Mathlib.Omega.{arith}
-use Rattle.desk.specs.Answers.{NumberIn, ofReading}
+use Rattle.desk.specs.Answers.{ofReading}
 use Rattle.desk.proofs.LevelLaws.{reading-number}
 use borrow.Author.Needs.{needs}
 use Rattle.desk.proofs.ask.ask_sample.Statement.{statement}
@@ -11,7 +11,7 @@ meter-sample-requires : tie.Need-meter-sample-requires
 meter-sample-requires c κs = search needs
 
 of-reading-requires : tie.Need-of-reading-requires
-of-reading-requires c κs = subst NumberIn (sym (c .meter-sample .ensures)) (reading-number _ _ _ (omega arith))
+of-reading-requires c κs = reading-number _ _ _ (omega arith) _ (sym (c .meter-sample .ensures))
 
 returns : tie.Need-returns
 returns c = c .of-reading .ensures ∙ ap ofReading (c .before .meter-sample .ensures)

@@ -1,22 +1,10 @@
--- `text::reading::put_word` meets its contract: the span holds the word.
-use mathlib.Core.Path.{subst}
-use denote.Ref.{now}
-use Rattle.text.specs.Writing.{Wrote}
+-- `text::reading::put_word` meets its contract: it writes the word.
 use borrow.Author.Needs.{needs}
 use Rattle.text.proofs.reading.put_word.Statement.{statement}
 use Rattle.text.proofs.reading.put_word.Tie as tie
 
-span-of-requires : tie.Need-span-of-requires
-span-of-requires c κs = search needs
-
-sub-put : tie.Need-sub-put
-sub-put c = search needs
-
-part-put-start : tie.Need-part-put-start
-part-put-start c = search needs
-
-part-put-end : tie.Need-part-put-end
-part-put-end c = search needs
+word-at-requires : tie.Need-word-at-requires
+word-at-requires c κs = search needs
 
 put-requires : tie.Need-put-requires
 put-requires c κs = search needs
@@ -25,19 +13,7 @@ same-length : tie.Need-same-length
 same-length c = search needs
 
 returns : tie.Need-returns
-returns c =
-    let a = c .before .before .before .before .before .before .before .before .args in
-    let p = c .before .before .put in
-    subst (λ w. Wrote (now (a .out)) (a .at) w (p .last .0) (p .result)) (c .before .before .before .before .before .span-of .ensures .is) (p .ensures)
+returns c = rw (← c .before .before .before .word-at .ensures) (c .before .before .put .ensures)
 
 pub put-word-spec : {M : Type 1} → statement M
-put-word-spec =
-    tie.close
-    (tie.spec
-    span-of-requires
-    sub-put
-    part-put-start
-    part-put-end
-    put-requires
-    same-length
-    returns)
+put-word-spec = tie.close (tie.spec word-at-requires put-requires same-length returns)

@@ -1,0 +1,145 @@
+// What the box answers, in words with its numbers, and where the words of a request are at fault.
+use crate::GAP;
+use crate::output::hex;
+use crate::output::number;
+use crate::output::say;
+use crate::wording;
+use desk::ask::Answer;
+use desk::form;
+use refusal::Refusal;
+use sample::Pixel;
+use setting::label::Label;
+use text::reading;
+
+// The word at which reading stopped, and what was expected of it.
+pub fn fault(words: &[u8], word: u8, n: u8) {
+    say(b"word ");
+    number(word as u64 + 1);
+    if reading::has_word(words, GAP, word) {
+        say(b", '");
+        say(reading::word_at(words, GAP, word));
+        say(b"',");
+        if n == form::NO_MORE {
+            say(b" is one too many\n");
+            return;
+        }
+        say(b" is not what belongs there");
+    } else {
+        say(b" is missing");
+    }
+    say(b"; expected: ");
+    wording::expected(n);
+    say(b"\n");
+}
+
+fn refused(r: Refusal) {
+    let n = r.number;
+    let place = r.place;
+    say(b"refused ");
+    number(n as u64);
+    say(b": ");
+    wording::meaning(n);
+    if n == 10 {
+        say(b": plane ");
+        number(place.plane as u64);
+        say(b", row ");
+        number(place.row as u64);
+        say(b", column ");
+        number(place.column as u64);
+    }
+    say(b"\n");
+}
+
+fn samples(forward: bool, p: Pixel) {
+    if forward {
+        say(b"Y ");
+        number(p.p0 as u64);
+        say(b"  Cb ");
+        number(p.p1 as u64);
+        say(b"  Cr ");
+    } else {
+        say(b"R ");
+        number(p.p0 as u64);
+        say(b"  G ");
+        number(p.p1 as u64);
+        say(b"  B ");
+    }
+    number(p.p2 as u64);
+    say(b"\n");
+}
+
+// Half, rounded up.
+fn half_of(n: u64) -> u64 {
+    n / 2 + n % 2
+}
+
+// A level's size in millionths, to the nearest. A float of an exponent below 127 + 23 is its 24 bits over a power of two; no level is 4
+// or more.
+fn millionths(bits: u32) -> u64 {
+    let exponent = bits / 8388608 % 256;
+    let mantissa = (bits % 8388608 + 8388608) as u64;
+    if exponent < 100 {
+        return 0;
+    }
+    if 140 < exponent {
+        return 0;
+    }
+    let shift = 150 - exponent;
+    half_of((mantissa * 2000000) >> shift)
+}
+
+fn digit(n: u64) {
+    number(n % 10);
+}
+
+// The level as a decimal, and the float itself by its bits.
+fn level(name: &[u8], bits: u32) {
+    say(name);
+    say(b" level ");
+    if 2147483647 < bits {
+        say(b"-");
+    }
+    let m = millionths(bits);
+    number(m / 1000000);
+    say(b".");
+    digit(m / 100000);
+    digit(m / 10000);
+    digit(m / 1000);
+    digit(m / 100);
+    digit(m / 10);
+    digit(m);
+    say(b" (float bits ");
+    hex(bits);
+    say(b")\n");
+}
+
+fn label(l: Label) {
+    match l {
+        Label::Assigned => say(b"assigned\n"),
+        Label::Unspecified => say(b"unspecified\n"),
+        Label::Reserved => say(b"reserved\n"),
+    }
+}
+
+fn source(found: bool) {
+    if found {
+        say(b"yes: an RGB pixel within depth converts to this one\n");
+        return;
+    }
+    say(b"none: no RGB pixel within depth converts to this one\n");
+}
+
+pub fn answer(forward: bool, a: Answer) {
+    match a {
+        Answer::Samples(p) => samples(forward, p),
+        Answer::Source(found) => source(found),
+        Answer::Level(bits) => level(b"sample", bits),
+        Answer::Levels(y, cb, cr) => {
+            level(b"Y", y);
+            level(b"Cb", cb);
+            level(b"Cr", cr);
+        }
+        Answer::Label(l) => label(l),
+        Answer::Refused(r) => refused(r),
+    }
+}

@@ -1,0 +1,66 @@
+// The counter's fixed sentences: how it is asked, what was expected of a word, and what a refusal means.
+use crate::output::say;
+
+pub fn usage() {
+    say(b"cork: one pixel of the colour converter box\n\n");
+    say(b"  cork forward SETTING R G B      RGB to luma and chroma\n");
+    say(b"  cork reverse SETTING Y CB CR    luma and chroma to RGB\n");
+    say(
+        b"  cork source SETTING Y CB CR     does some RGB pixel convert to it? (lossless settings)\n",
+    );
+    say(b"  cork meter SETTING Y CB CR      the three levels (luma matrices)\n");
+    say(b"  cork meter SETTING y|cb|cr SAMPLE\n");
+    say(b"  cork label primaries|transfer|matrix CODE\n\n");
+    say(b"SETTING is eight words: primaries, transfer and matrix codes (0 to 255), RGB depth,\n");
+    say(
+        b"Y depth and C depth in bits, then full or narrow for RGB and for YCbCr. For example:\n\n",
+    );
+    say(b"  cork forward 1 1 8 8 8 9 full full 255 0 0\n\n");
+    say(b"Status: 0 for an answer, 1 for a refusal, 2 for words that were not understood.\n");
+}
+
+// What was expected of a word, by the front desk's number, where any was.
+pub fn expected(n: u8) {
+    match n {
+        0 => say(b"forward, reverse, source, meter or label"),
+        1 => say(b"the colour primaries, a number from 0 to 255"),
+        2 => say(b"the transfer characteristics, a number from 0 to 255"),
+        3 => say(b"the matrix coefficients, a number from 0 to 255"),
+        4 => say(b"the RGB depth in bits, a number from 0 to 255"),
+        5 => say(b"the Y depth in bits, a number from 0 to 255"),
+        6 => say(b"the C depth in bits, a number from 0 to 255"),
+        7 => say(b"full or narrow, for the RGB side"),
+        8 => say(b"full or narrow, for the YCbCr side"),
+        9 => say(b"the R sample, a number from 0 to 65535"),
+        10 => say(b"the G sample, a number from 0 to 65535"),
+        11 => say(b"the B sample, a number from 0 to 65535"),
+        12 => say(b"the Y sample, a number from 0 to 65535"),
+        13 => say(b"the Cb sample, a number from 0 to 65535"),
+        14 => say(b"the Cr sample, a number from 0 to 65535"),
+        15 => say(b"y, cb or cr, or the Y sample from 0 to 65535"),
+        16 => say(b"primaries, transfer or matrix"),
+        _ => say(b"a code, a number from 0 to 255"),
+    }
+}
+
+// What a refusal means, and what to do about it.
+pub fn meaning(n: u8) {
+    match n {
+        1 => say(
+            b"this matrix code is reserved and means nothing yet; use the code of your material",
+        ),
+        2 => say(b"the matrix is unspecified; name the real one"),
+        3 => say(b"this matrix (10 to 14) is known but not served; choose another or another box"),
+        4 => say(b"this primaries code is reserved; correct the label"),
+        5 => say(b"this transfer code is reserved; correct the label"),
+        6 => say(b"a depth is outside 8 to 16 bits, or above 12 with a luma matrix"),
+        7 => say(b"depths or ranges do not agree with this matrix; see the rules for what it asks"),
+        8 => say(
+            b"width or height is outside 1 to 8192, or a stride is below the width or above 16384",
+        ),
+        9 => say(b"a plane is too short for its size and stride"),
+        10 => say(b"a sample is too large for its depth"),
+        11 => say(b"the meter needs a luma matrix, and the source check a lossless setting"),
+        _ => say(b"refused"),
+    }
+}
