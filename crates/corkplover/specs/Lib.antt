@@ -2,3 +2,4 @@
 pub mod Admit
 pub mod Answers
 pub mod Packing
+pub mod Left

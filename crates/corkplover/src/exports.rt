@@ -4,8 +4,9 @@ ghost use mathlib.Core.Path.{_≡_};
 ghost use Rattle.setting.specs.Label.{primariesLabel, transferLabel, matrixLabel, labelNumber};
 ghost use Rattle.pixel.specs.declared.Way.the-variants.{Forward, Reverse};
 ghost use Rattle.meter.specs.declared.SampleKind.the-variants.{Y, Cb, Cr};
-ghost use Rattle.corkplover.specs.Answers.{pixelAnswer, reading, levelsAnswer};
-ghost use Rattle.corkplover.specs.Packing.{setting, packedPixel, packedReading, packedLevels, levelIn, yIn, cbIn, crIn};
+ghost use Rattle.corkplover.specs.Answers.{pixelAnswer};
+ghost use Rattle.corkplover.specs.Packing.{setting, packedPixel};
+ghost use Rattle.corkplover.specs.Left.{ReadingLeft, LevelsLeft};
 use crate::labels;
 use crate::one_pixel;
 use crate::packing;
@@ -116,8 +117,7 @@ pub extern "C" fn corkplover_meter_y(
     v: u16,
     level: &mut f32,
 ) -> u64
-    ensures { λ x. ⌜ x ≡ packedReading (reading Y (setting primaries transfer matrix rgbdepth ydepth cdepth rgbfull yccfull) v) ⌝ }
-    ensures { λ x. ⌜ now (level .exit) ≡ levelIn (reading Y (setting primaries transfer matrix rgbdepth ydepth cdepth rgbfull yccfull) v) ⌝ }
+    ensures { λ x. ⌜ ReadingLeft Y (setting primaries transfer matrix rgbdepth ydepth cdepth rgbfull yccfull) v x (now (level .exit)) ⌝ }
 {
     let s = setting_of(
         primaries,
@@ -147,8 +147,7 @@ pub extern "C" fn corkplover_meter_cb(
     v: u16,
     level: &mut f32,
 ) -> u64
-    ensures { λ x. ⌜ x ≡ packedReading (reading Cb (setting primaries transfer matrix rgbdepth ydepth cdepth rgbfull yccfull) v) ⌝ }
-    ensures { λ x. ⌜ now (level .exit) ≡ levelIn (reading Cb (setting primaries transfer matrix rgbdepth ydepth cdepth rgbfull yccfull) v) ⌝ }
+    ensures { λ x. ⌜ ReadingLeft Cb (setting primaries transfer matrix rgbdepth ydepth cdepth rgbfull yccfull) v x (now (level .exit)) ⌝ }
 {
     let s = setting_of(
         primaries,
@@ -178,8 +177,7 @@ pub extern "C" fn corkplover_meter_cr(
     v: u16,
     level: &mut f32,
 ) -> u64
-    ensures { λ x. ⌜ x ≡ packedReading (reading Cr (setting primaries transfer matrix rgbdepth ydepth cdepth rgbfull yccfull) v) ⌝ }
-    ensures { λ x. ⌜ now (level .exit) ≡ levelIn (reading Cr (setting primaries transfer matrix rgbdepth ydepth cdepth rgbfull yccfull) v) ⌝ }
+    ensures { λ x. ⌜ ReadingLeft Cr (setting primaries transfer matrix rgbdepth ydepth cdepth rgbfull yccfull) v x (now (level .exit)) ⌝ }
 {
     let s = setting_of(
         primaries,
@@ -213,10 +211,7 @@ pub extern "C" fn corkplover_meter_pixel(
     cblevel: &mut f32,
     crlevel: &mut f32,
 ) -> u64
-    ensures { λ x. ⌜ x ≡ packedLevels (levelsAnswer (setting primaries transfer matrix rgbdepth ydepth cdepth rgbfull yccfull) (record { p0 = y; p1 = cb; p2 = cr })) ⌝ }
-    ensures { λ x. ⌜ now (ylevel .exit) ≡ yIn (levelsAnswer (setting primaries transfer matrix rgbdepth ydepth cdepth rgbfull yccfull) (record { p0 = y; p1 = cb; p2 = cr })) ⌝ }
-    ensures { λ x. ⌜ now (cblevel .exit) ≡ cbIn (levelsAnswer (setting primaries transfer matrix rgbdepth ydepth cdepth rgbfull yccfull) (record { p0 = y; p1 = cb; p2 = cr })) ⌝ }
-    ensures { λ x. ⌜ now (crlevel .exit) ≡ crIn (levelsAnswer (setting primaries transfer matrix rgbdepth ydepth cdepth rgbfull yccfull) (record { p0 = y; p1 = cb; p2 = cr })) ⌝ }
+    ensures { λ x. ⌜ LevelsLeft (setting primaries transfer matrix rgbdepth ydepth cdepth rgbfull yccfull) (record { p0 = y; p1 = cb; p2 = cr }) x (now (ylevel .exit)) (now (cblevel .exit)) (now (crlevel .exit)) ⌝ }
 {
     let s = setting_of(
         primaries,

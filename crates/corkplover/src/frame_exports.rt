@@ -2,10 +2,11 @@
 ghost use mathlib.Core.Path.{_≡_};
 ghost use lib.ListN.{length};
 ghost use Rattle.pixel.specs.declared.Way.the-variants.{Forward, Reverse};
-ghost use Rattle.frame.specs.Frame.{sourceOf, outputOf, frameAnswer, outPlane};
+ghost use Rattle.frame.specs.Frame.{sourceOf, outputOf};
 ghost use Rattle.image.specs.Image.{imageAnswer};
 ghost use Rattle.picture.specs.Picture.{picture};
-ghost use Rattle.corkplover.specs.Packing.{setting, sizes, packedFrame, packedImage};
+ghost use Rattle.corkplover.specs.Packing.{setting, sizes, packedImage};
+ghost use Rattle.corkplover.specs.Left.{FrameExportLeft};
 use crate::frames;
 use crate::packing;
 use crate::packing::setting_of;
@@ -32,10 +33,7 @@ pub extern "C" fn corkplover_forward_frame(
     cb: &mut [u16],
     cr: &mut [u16],
 ) -> u64
-    ensures { λ x. ⌜ x ≡ packedFrame (frameAnswer Forward (setting primaries transfer matrix rgbdepth ydepth cdepth rgbfull yccfull) (sourceOf (sizes width height sourcestride outputstride) (now (r .entry)) (now (g .entry)) (now (b .entry))) (outputOf (sizes width height sourcestride outputstride) (length (now (y .entry))) (length (now (cb .entry))) (length (now (cr .entry))))) ⌝ }
-    ensures { λ _. ⌜ now (y .exit) ≡ outPlane 0 Forward (setting primaries transfer matrix rgbdepth ydepth cdepth rgbfull yccfull) (sourceOf (sizes width height sourcestride outputstride) (now (r .entry)) (now (g .entry)) (now (b .entry))) (outputOf (sizes width height sourcestride outputstride) (length (now (y .entry))) (length (now (cb .entry))) (length (now (cr .entry)))) ⌝ }
-    ensures { λ _. ⌜ now (cb .exit) ≡ outPlane 1 Forward (setting primaries transfer matrix rgbdepth ydepth cdepth rgbfull yccfull) (sourceOf (sizes width height sourcestride outputstride) (now (r .entry)) (now (g .entry)) (now (b .entry))) (outputOf (sizes width height sourcestride outputstride) (length (now (y .entry))) (length (now (cb .entry))) (length (now (cr .entry)))) ⌝ }
-    ensures { λ _. ⌜ now (cr .exit) ≡ outPlane 2 Forward (setting primaries transfer matrix rgbdepth ydepth cdepth rgbfull yccfull) (sourceOf (sizes width height sourcestride outputstride) (now (r .entry)) (now (g .entry)) (now (b .entry))) (outputOf (sizes width height sourcestride outputstride) (length (now (y .entry))) (length (now (cb .entry))) (length (now (cr .entry)))) ⌝ }
+    ensures { λ x. ⌜ FrameExportLeft Forward (setting primaries transfer matrix rgbdepth ydepth cdepth rgbfull yccfull) (sourceOf (sizes width height sourcestride outputstride) (now (r .entry)) (now (g .entry)) (now (b .entry))) (outputOf (sizes width height sourcestride outputstride) (length (now (y .entry))) (length (now (cb .entry))) (length (now (cr .entry)))) x (now (y .exit)) (now (cb .exit)) (now (cr .exit)) ⌝ }
 {
     let s = setting_of(
         primaries,
@@ -73,10 +71,7 @@ pub extern "C" fn corkplover_reverse_frame(
     g: &mut [u16],
     b: &mut [u16],
 ) -> u64
-    ensures { λ x. ⌜ x ≡ packedFrame (frameAnswer Reverse (setting primaries transfer matrix rgbdepth ydepth cdepth rgbfull yccfull) (sourceOf (sizes width height sourcestride outputstride) (now (y .entry)) (now (cb .entry)) (now (cr .entry))) (outputOf (sizes width height sourcestride outputstride) (length (now (r .entry))) (length (now (g .entry))) (length (now (b .entry))))) ⌝ }
-    ensures { λ _. ⌜ now (r .exit) ≡ outPlane 0 Reverse (setting primaries transfer matrix rgbdepth ydepth cdepth rgbfull yccfull) (sourceOf (sizes width height sourcestride outputstride) (now (y .entry)) (now (cb .entry)) (now (cr .entry))) (outputOf (sizes width height sourcestride outputstride) (length (now (r .entry))) (length (now (g .entry))) (length (now (b .entry)))) ⌝ }
-    ensures { λ _. ⌜ now (g .exit) ≡ outPlane 1 Reverse (setting primaries transfer matrix rgbdepth ydepth cdepth rgbfull yccfull) (sourceOf (sizes width height sourcestride outputstride) (now (y .entry)) (now (cb .entry)) (now (cr .entry))) (outputOf (sizes width height sourcestride outputstride) (length (now (r .entry))) (length (now (g .entry))) (length (now (b .entry)))) ⌝ }
-    ensures { λ _. ⌜ now (b .exit) ≡ outPlane 2 Reverse (setting primaries transfer matrix rgbdepth ydepth cdepth rgbfull yccfull) (sourceOf (sizes width height sourcestride outputstride) (now (y .entry)) (now (cb .entry)) (now (cr .entry))) (outputOf (sizes width height sourcestride outputstride) (length (now (r .entry))) (length (now (g .entry))) (length (now (b .entry)))) ⌝ }
+    ensures { λ x. ⌜ FrameExportLeft Reverse (setting primaries transfer matrix rgbdepth ydepth cdepth rgbfull yccfull) (sourceOf (sizes width height sourcestride outputstride) (now (y .entry)) (now (cb .entry)) (now (cr .entry))) (outputOf (sizes width height sourcestride outputstride) (length (now (r .entry))) (length (now (g .entry))) (length (now (b .entry)))) x (now (r .exit)) (now (g .exit)) (now (b .exit)) ⌝ }
 {
     let s = setting_of(
         primaries,

@@ -2,7 +2,7 @@
 ghost use mathlib.Core.Path.{_≡_};
 ghost use lib.ListN.{length};
 ghost use Rattle.pixel.specs.declared.Way.the-variants.{Forward, Reverse};
-ghost use Rattle.frame.specs.Frame.{sourceOf, outputOf, frameAnswer, outPlane};
+ghost use Rattle.frame.specs.Frame.{sourceOf, outputOf, FrameLeft};
 ghost use Rattle.image.specs.Image.{imageAnswer};
 ghost use Rattle.picture.specs.Picture.{picture};
 use frame::FrameAnswer;
@@ -22,10 +22,7 @@ pub fn forward_frame(
     cb: &mut [u16],
     cr: &mut [u16],
 ) -> FrameAnswer
-    ensures { λ x. ⌜ x ≡ frameAnswer Forward s (sourceOf size (now (r .entry)) (now (g .entry)) (now (b .entry))) (outputOf size (length (now (y .entry))) (length (now (cb .entry))) (length (now (cr .entry)))) ⌝ }
-    ensures { λ _. ⌜ now (y .exit) ≡ outPlane 0 Forward s (sourceOf size (now (r .entry)) (now (g .entry)) (now (b .entry))) (outputOf size (length (now (y .entry))) (length (now (cb .entry))) (length (now (cr .entry)))) ⌝ }
-    ensures { λ _. ⌜ now (cb .exit) ≡ outPlane 1 Forward s (sourceOf size (now (r .entry)) (now (g .entry)) (now (b .entry))) (outputOf size (length (now (y .entry))) (length (now (cb .entry))) (length (now (cr .entry)))) ⌝ }
-    ensures { λ _. ⌜ now (cr .exit) ≡ outPlane 2 Forward s (sourceOf size (now (r .entry)) (now (g .entry)) (now (b .entry))) (outputOf size (length (now (y .entry))) (length (now (cb .entry))) (length (now (cr .entry)))) ⌝ }
+    ensures { λ x. ⌜ FrameLeft Forward s (sourceOf size (now (r .entry)) (now (g .entry)) (now (b .entry))) (outputOf size (length (now (y .entry))) (length (now (cb .entry))) (length (now (cr .entry)))) x (now (y .exit)) (now (cb .exit)) (now (cr .exit)) ⌝ }
 {
     frame::convert_frame(Way::Forward, s, size, r, g, b, y, cb, cr)
 }
@@ -41,10 +38,7 @@ pub fn reverse_frame(
     g: &mut [u16],
     b: &mut [u16],
 ) -> FrameAnswer
-    ensures { λ x. ⌜ x ≡ frameAnswer Reverse s (sourceOf size (now (y .entry)) (now (cb .entry)) (now (cr .entry))) (outputOf size (length (now (r .entry))) (length (now (g .entry))) (length (now (b .entry)))) ⌝ }
-    ensures { λ _. ⌜ now (r .exit) ≡ outPlane 0 Reverse s (sourceOf size (now (y .entry)) (now (cb .entry)) (now (cr .entry))) (outputOf size (length (now (r .entry))) (length (now (g .entry))) (length (now (b .entry)))) ⌝ }
-    ensures { λ _. ⌜ now (g .exit) ≡ outPlane 1 Reverse s (sourceOf size (now (y .entry)) (now (cb .entry)) (now (cr .entry))) (outputOf size (length (now (r .entry))) (length (now (g .entry))) (length (now (b .entry)))) ⌝ }
-    ensures { λ _. ⌜ now (b .exit) ≡ outPlane 2 Reverse s (sourceOf size (now (y .entry)) (now (cb .entry)) (now (cr .entry))) (outputOf size (length (now (r .entry))) (length (now (g .entry))) (length (now (b .entry)))) ⌝ }
+    ensures { λ x. ⌜ FrameLeft Reverse s (sourceOf size (now (y .entry)) (now (cb .entry)) (now (cr .entry))) (outputOf size (length (now (r .entry))) (length (now (g .entry))) (length (now (b .entry)))) x (now (r .exit)) (now (g .exit)) (now (b .exit)) ⌝ }
 {
     frame::convert_frame(Way::Reverse, s, size, y, cb, cr, r, g, b)
 }

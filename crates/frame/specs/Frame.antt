@@ -1,5 +1,6 @@
 -- A frame, converted: what is answered, and what each output plane then holds. Of an output plane only its length counts: what it
 -- held before is nowhere here.
+use mathlib.Core.Path.{_≡_}
 use mathlib.Core.List.{List, [], _∷_}
 use Prim.Native.Nat.{ℕ, _+_, _-_}
 use lib.ListN.{getD, take, drop}
@@ -60,6 +61,13 @@ lengthOf k b = getD (b .n0 ∷ b .n1 ∷ b .n2 ∷ []) k 0
 -- THE contents of output plane k after a conversion
 unfoldable pub outPlane : ℕ → Way → Setting → Picture → Side → List ℕ
 outPlane k way s a b = planeBy (frameVerdict way s a b) k way a (b .stride) (lengthOf k b)
+
+-- the three planes that a conversion leaves, and with its answer all that it leaves
+abbrev pub PlanesLeft : Way → Setting → Picture → Side → List ℕ → List ℕ → List ℕ → Type 0
+PlanesLeft way s a b p0 p1 p2 = (p0 ≡ outPlane 0 way s a b) × ((p1 ≡ outPlane 1 way s a b) × (p2 ≡ outPlane 2 way s a b))
+
+abbrev pub FrameLeft : Way → Setting → Picture → Side → FrameAnswer → List ℕ → List ℕ → List ℕ → Type 0
+FrameLeft way s a b x p0 p1 p2 = (x ≡ frameAnswer way s a b) × PlanesLeft way s a b p0 p1 p2
 
 -- the part of a plane that is a row of n samples from index a
 abbrev pub part : List ℕ → ℕ → ℕ → List ℕ

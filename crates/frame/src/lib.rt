@@ -3,7 +3,7 @@ mod paint;
 
 ghost use mathlib.Core.Path.{_≡_};
 ghost use lib.ListN.{length};
-ghost use Rattle.frame.specs.Frame.{sourceOf, outputOf, frameAnswer, outPlane};
+ghost use Rattle.frame.specs.Frame.{sourceOf, outputOf, FrameLeft};
 use pixel::Way;
 use plane::size::Side;
 use refusal::Refusal;
@@ -35,10 +35,7 @@ pub fn convert_frame(
     b1: &mut [u16],
     b2: &mut [u16],
 ) -> FrameAnswer
-    ensures { λ r. ⌜ r ≡ frameAnswer way s (sourceOf size (now (a0 .entry)) (now (a1 .entry)) (now (a2 .entry))) (outputOf size (length (now (b0 .entry))) (length (now (b1 .entry))) (length (now (b2 .entry)))) ⌝ }
-    ensures { λ _. ⌜ now (b0 .exit) ≡ outPlane 0 way s (sourceOf size (now (a0 .entry)) (now (a1 .entry)) (now (a2 .entry))) (outputOf size (length (now (b0 .entry))) (length (now (b1 .entry))) (length (now (b2 .entry)))) ⌝ }
-    ensures { λ _. ⌜ now (b1 .exit) ≡ outPlane 1 way s (sourceOf size (now (a0 .entry)) (now (a1 .entry)) (now (a2 .entry))) (outputOf size (length (now (b0 .entry))) (length (now (b1 .entry))) (length (now (b2 .entry)))) ⌝ }
-    ensures { λ _. ⌜ now (b2 .exit) ≡ outPlane 2 way s (sourceOf size (now (a0 .entry)) (now (a1 .entry)) (now (a2 .entry))) (outputOf size (length (now (b0 .entry))) (length (now (b1 .entry))) (length (now (b2 .entry)))) ⌝ }
+    ensures { λ r. ⌜ FrameLeft way s (sourceOf size (now (a0 .entry)) (now (a1 .entry)) (now (a2 .entry))) (outputOf size (length (now (b0 .entry))) (length (now (b1 .entry))) (length (now (b2 .entry)))) r (now (b0 .exit)) (now (b1 .exit)) (now (b2 .exit)) ⌝ }
 {
     let width = size.width;
     let height = size.height;

@@ -13,7 +13,7 @@ use Rattle.plane.specs.declared.size.Side.{Side}
 use Rattle.pixel.specs.declared.Way.{Way}
 use Rattle.pixel.specs.declared.Way.the-variants.{Forward, Reverse}
 use Rattle.picture.specs.Picture.{Picture}
-use Rattle.frame.specs.Frame.{frameAnswer, outPlane}
+use Rattle.frame.specs.Frame.{PlanesLeft, FrameLeft}
 use Rattle.frame.specs.declared.FrameAnswer.{FrameAnswer}
 use Rattle.image.specs.Image.{imageAnswer}
 use Rattle.image.specs.declared.ImageAnswer.{ImageAnswer}
@@ -54,21 +54,17 @@ meter-pixel-once s p a b = once
 pub check-image-once : (s : Setting) (a : Picture) (x y : ImageAnswer) → x ≡ imageAnswer s a → y ≡ imageAnswer s a → x ≡ y
 check-image-once s a x y = once
 
--- what the contract of a frame call says: its answer, and the three planes that it leaves
-pub record FrameLeft (w : Way) (s : Setting) (a : Picture) (b : Side) (x : FrameAnswer) (y0 y1 y2 : List ℕ) : Type 0 where
-  pub answer : x ≡ frameAnswer w s a b
-  pub plane0 : y0 ≡ outPlane 0 w s a b
-  pub plane1 : y1 ≡ outPlane 1 w s a b
-  pub plane2 : y2 ≡ outPlane 2 w s a b
+-- the same three planes
+abbrev pub EqualPlanes : List ℕ → List ℕ → List ℕ → List ℕ → List ℕ → List ℕ → Type 0
+EqualPlanes y0 z0 y1 z1 y2 z2 = (y0 ≡ z0) × ((y1 ≡ z1) × (y2 ≡ z2))
 
--- the same answer and the same planes
-abbrev pub Equal : FrameAnswer → FrameAnswer → List ℕ → List ℕ → List ℕ → List ℕ → List ℕ → List ℕ → Type 0
-Equal x x' y0 z0 y1 z1 y2 z2 = (x ≡ x') × ((y0 ≡ z0) × ((y1 ≡ z1) × (y2 ≡ z2)))
+pub planes-once : (w : Way) (s : Setting) (a : Picture) (b : Side) {y0 y1 y2 z0 z1 z2 : List ℕ}
+    → PlanesLeft w s a b y0 y1 y2 → PlanesLeft w s a b z0 z1 z2 → EqualPlanes y0 z0 y1 z1 y2 z2
+planes-once w s a b e f = (once (e .0) (f .0), (once (e .1 .0) (f .1 .0), once (e .1 .1) (f .1 .1)))
 
 pub frame-once : (w : Way) (s : Setting) (a : Picture) (b : Side) {x x' : FrameAnswer} {y0 y1 y2 z0 z1 z2 : List ℕ}
-    → FrameLeft w s a b x y0 y1 y2 → FrameLeft w s a b x' z0 z1 z2 → Equal x x' y0 z0 y1 z1 y2 z2
-frame-once w s a b e f =
-    (once (e .answer) (f .answer), (once (e .plane0) (f .plane0), (once (e .plane1) (f .plane1), once (e .plane2) (f .plane2))))
+    → FrameLeft w s a b x y0 y1 y2 → FrameLeft w s a b x' z0 z1 z2 → (x ≡ x') × EqualPlanes y0 z0 y1 z1 y2 z2
+frame-once w s a b e f = (once (e .0) (f .0), planes-once w s a b (e .1) (f .1))
 
 -- Nothing of an earlier client remains, and no padding matters: two calls whose source planes agree in length and inside the picture, and
 -- whose output planes o and p have the same lengths, whatever those held, leave the same.
@@ -77,15 +73,15 @@ pub nothing-remains : (w : Way) (s : Setting) (a : Picture) (q0 q1 q2 : List ℕ
     → {x x' : FrameAnswer} {y0 y1 y2 z0 z1 z2 : List ℕ}
     → FrameLeft w s a (sideOf stride (length o0) (length o1) (length o2)) x y0 y1 y2
     → FrameLeft w s (withPlanes a q0 q1 q2) (sideOf stride (length p0) (length p1) (length p2)) x' z0 z1 z2
-    → Equal x x' y0 z0 y1 z1 y2 z2
+    → (x ≡ x') × EqualPlanes y0 z0 y1 z1 y2 z2
 nothing-remains w s a q0 q1 q2 alike stride o0 o1 o2 p0 p1 p2 l0 l1 l2 {x} {x'} {y0} {y1} {y2} e f =
     let b = sideOf stride (length p0) (length p1) (length p2) in
     let same : sideOf stride (length o0) (length o1) (length o2) ≡ b = rw (l0, l1, l2) in
     let g = subst (λ (d : Side). FrameLeft w s a d x y0 y1 y2) same e in
-    frame-once w s (withPlanes a q0 q1 q2) b
-    (record {
-      answer = g .answer ∙ same-answer a q0 q1 q2 alike w s b;
-      plane0 = g .plane0 ∙ same-plane a q0 q1 q2 alike 0 w s b;
-      plane1 = g .plane1 ∙ same-plane a q0 q1 q2 alike 1 w s b;
-      plane2 = g .plane2 ∙ same-plane a q0 q1 q2 alike 2 w s b;
-    }) f
+    frame-once w s (withPlanes a q0 q1 q2) b (
+      g .0 ∙ same-answer a q0 q1 q2 alike w s b,
+      (
+        g .1 .0 ∙ same-plane a q0 q1 q2 alike 0 w s b,
+        (g .1 .1 .0 ∙ same-plane a q0 q1 q2 alike 1 w s b, g .1 .1 .1 ∙ same-plane a q0 q1 q2 alike 2 w s b),
+      ),
+    ) f

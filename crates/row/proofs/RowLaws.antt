@@ -17,7 +17,7 @@ use Rattle.plane.proofs.Tables.{length-tab, tab-same, tab-at, Filled, filled-no
 use Rattle.pixel.specs.Pixel.{luma, lines}
 use Rattle.pixel.specs.declared.Way.{Way}
 use Rattle.pixel.specs.declared.Way.the-variants.{Forward, Reverse}
-use Rattle.row.specs.Row.{pixelIn, sampleOf, converted, rowOf, Abreast}
+use Rattle.row.specs.Row.{pixelIn, sampleOf, converted, rowOf, Made, Abreast}
 
 -- the rows b0, b1, b2 are what f makes of the row a0, a1, a2, as far as index i
 pub record Written (f : Pixel → Pixel) (a0 a1 a2 b0 b1 b2 : List ℕ) (i : ℕ) : Type 0 where
@@ -25,10 +25,6 @@ pub record Written (f : Pixel → Pixel) (a0 a1 a2 b0 b1 b2 : List ℕ) (i : ℕ
   pub row0 : Filled (converted 0 f a0 a1 a2) (length a0) b0 i
   pub row1 : Filled (converted 1 f a0 a1 a2) (length a0) b1 i
   pub row2 : Filled (converted 2 f a0 a1 a2) (length a0) b2 i
-
--- three rows, by what makes them
-abbrev pub Made : (Pixel → Pixel) → List ℕ → List ℕ → List ℕ → List ℕ → List ℕ → List ℕ → Type 0
-Made f a0 a1 a2 b0 b1 b2 = (b0 ≡ rowOf 0 f a0 a1 a2) × ((b1 ≡ rowOf 1 f a0 a1 a2) × (b2 ≡ rowOf 2 f a0 a1 a2))
 
 module _ {f : Pixel → Pixel} {a0 a1 a2 b0 b1 b2 : List ℕ} where
   pub written-none : Abreast a0 a1 a2 b0 b1 b2 → Written f a0 a1 a2 b0 b1 b2 0

@@ -25,6 +25,10 @@ rowBy g a0 a1 a2 = tab (length a0) (λ (i : ℕ). g (pixelIn a0 a1 a2 i))
 abbrev pub rowOf : ℕ → (Pixel → Pixel) → List ℕ → List ℕ → List ℕ → List ℕ
 rowOf k f a0 a1 a2 = rowBy (λ (p : Pixel). sampleOf k (f p)) a0 a1 a2
 
+-- the three rows that f makes of a row
+abbrev pub Made : (Pixel → Pixel) → List ℕ → List ℕ → List ℕ → List ℕ → List ℕ → List ℕ → Type 0
+Made f a0 a1 a2 b0 b1 b2 = (b0 ≡ rowOf 0 f a0 a1 a2) × ((b1 ≡ rowOf 1 f a0 a1 a2) × (b2 ≡ rowOf 2 f a0 a1 a2))
+
 -- a fact of every pixel of a row
 abbrev pub Every : (Pixel → Type 0) → List ℕ → List ℕ → List ℕ → Type 0
 Every fact a0 a1 a2 = (i : ℕ) → i < length a0 → fact (pixelIn a0 a1 a2 i)

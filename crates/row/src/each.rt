@@ -7,7 +7,7 @@ ghost use Rattle.ycgco.specs.YCgCo.{lossyForward, lossyReverse, losslessForward
 ghost use Rattle.levels.specs.Lines.{sampleOf, pixelOf};
 ghost use Rattle.levels.specs.Room.{Room, Rooms};
 ghost use Rattle.levels.specs.Luma.{SamplesServed};
-ghost use Rattle.row.specs.Row.{pixelIn, rowBy, rowOf, Every, Abreast};
+ghost use Rattle.row.specs.Row.{pixelIn, rowBy, Made, Every, Abreast};
 use levels::Line;
 use levels::Lines;
 use sample::Depths;
@@ -101,9 +101,7 @@ pub fn luma(
     requires { ⌜ Rooms lines ⌝ }
     requires { ⌜ Abreast (now a0) (now a1) (now a2) (now b0) (now b1) (now b2) ⌝ }
     requires { ⌜ Every SamplesServed (now a0) (now a1) (now a2) ⌝ }
-    ensures { λ _. ⌜ now (b0 .exit) ≡ rowOf 0 (pixelOf lines) (now (a0 .entry)) (now (a1 .entry)) (now (a2 .entry)) ⌝ }
-    ensures { λ _. ⌜ now (b1 .exit) ≡ rowOf 1 (pixelOf lines) (now (a0 .entry)) (now (a1 .entry)) (now (a2 .entry)) ⌝ }
-    ensures { λ _. ⌜ now (b2 .exit) ≡ rowOf 2 (pixelOf lines) (now (a0 .entry)) (now (a1 .entry)) (now (a2 .entry)) ⌝ }
+    ensures { λ _. ⌜ Made (pixelOf lines) (now (a0 .entry)) (now (a1 .entry)) (now (a2 .entry)) (now (b0 .exit)) (now (b1 .exit)) (now (b2 .exit)) ⌝ }
 {
     luma_plane(lines.first, a0, a1, a2, b0);
     luma_plane(lines.second, a0, a1, a2, b1);
@@ -122,9 +120,7 @@ pub fn lossy_forward(
 )
     requires { ⌜ Plain d ⌝ }
     requires { ⌜ Abreast (now a0) (now a1) (now a2) (now b0) (now b1) (now b2) ⌝ }
-    ensures { λ _. ⌜ now (b0 .exit) ≡ rowOf 0 (lossyForward d) (now (a0 .entry)) (now (a1 .entry)) (now (a2 .entry)) ⌝ }
-    ensures { λ _. ⌜ now (b1 .exit) ≡ rowOf 1 (lossyForward d) (now (a0 .entry)) (now (a1 .entry)) (now (a2 .entry)) ⌝ }
-    ensures { λ _. ⌜ now (b2 .exit) ≡ rowOf 2 (lossyForward d) (now (a0 .entry)) (now (a1 .entry)) (now (a2 .entry)) ⌝ }
+    ensures { λ _. ⌜ Made (lossyForward d) (now (a0 .entry)) (now (a1 .entry)) (now (a2 .entry)) (now (b0 .exit)) (now (b1 .exit)) (now (b2 .exit)) ⌝ }
 {
     for i in 0..a0.len() {
         let p = pixel_in(a0, a1, a2, i);
@@ -145,9 +141,7 @@ pub fn lossy_reverse(
 )
     requires { ⌜ Plain d ⌝ }
     requires { ⌜ Abreast (now a0) (now a1) (now a2) (now b0) (now b1) (now b2) ⌝ }
-    ensures { λ _. ⌜ now (b0 .exit) ≡ rowOf 0 (lossyReverse d) (now (a0 .entry)) (now (a1 .entry)) (now (a2 .entry)) ⌝ }
-    ensures { λ _. ⌜ now (b1 .exit) ≡ rowOf 1 (lossyReverse d) (now (a0 .entry)) (now (a1 .entry)) (now (a2 .entry)) ⌝ }
-    ensures { λ _. ⌜ now (b2 .exit) ≡ rowOf 2 (lossyReverse d) (now (a0 .entry)) (now (a1 .entry)) (now (a2 .entry)) ⌝ }
+    ensures { λ _. ⌜ Made (lossyReverse d) (now (a0 .entry)) (now (a1 .entry)) (now (a2 .entry)) (now (b0 .exit)) (now (b1 .exit)) (now (b2 .exit)) ⌝ }
 {
     for i in 0..a0.len() {
         let p = pixel_in(a0, a1, a2, i);
@@ -169,9 +163,7 @@ pub fn lossless_forward(
     requires { ⌜ Roomy d ⌝ }
     requires { ⌜ Abreast (now a0) (now a1) (now a2) (now b0) (now b1) (now b2) ⌝ }
     requires { ⌜ Every (InsideRGB d) (now a0) (now a1) (now a2) ⌝ }
-    ensures { λ _. ⌜ now (b0 .exit) ≡ rowOf 0 (losslessForward d) (now (a0 .entry)) (now (a1 .entry)) (now (a2 .entry)) ⌝ }
-    ensures { λ _. ⌜ now (b1 .exit) ≡ rowOf 1 (losslessForward d) (now (a0 .entry)) (now (a1 .entry)) (now (a2 .entry)) ⌝ }
-    ensures { λ _. ⌜ now (b2 .exit) ≡ rowOf 2 (losslessForward d) (now (a0 .entry)) (now (a1 .entry)) (now (a2 .entry)) ⌝ }
+    ensures { λ _. ⌜ Made (losslessForward d) (now (a0 .entry)) (now (a1 .entry)) (now (a2 .entry)) (now (b0 .exit)) (now (b1 .exit)) (now (b2 .exit)) ⌝ }
 {
     for i in 0..a0.len() {
         let p = pixel_in(a0, a1, a2, i);
@@ -192,9 +184,7 @@ pub fn lossless_reverse(
 )
     requires { ⌜ Roomy d ⌝ }
     requires { ⌜ Abreast (now a0) (now a1) (now a2) (now b0) (now b1) (now b2) ⌝ }
-    ensures { λ _. ⌜ now (b0 .exit) ≡ rowOf 0 (losslessReverse d) (now (a0 .entry)) (now (a1 .entry)) (now (a2 .entry)) ⌝ }
-    ensures { λ _. ⌜ now (b1 .exit) ≡ rowOf 1 (losslessReverse d) (now (a0 .entry)) (now (a1 .entry)) (now (a2 .entry)) ⌝ }
-    ensures { λ _. ⌜ now (b2 .exit) ≡ rowOf 2 (losslessReverse d) (now (a0 .entry)) (now (a1 .entry)) (now (a2 .entry)) ⌝ }
+    ensures { λ _. ⌜ Made (losslessReverse d) (now (a0 .entry)) (now (a1 .entry)) (now (a2 .entry)) (now (b0 .exit)) (now (b1 .exit)) (now (b2 .exit)) ⌝ }
 {
     for i in 0..a0.len() {
         let p = pixel_in(a0, a1, a2, i);

@@ -7,7 +7,7 @@ ghost use Rattle.ycgco.specs.YCgCo.{Plain, Roomy};
 ghost use Rattle.levels.specs.Luma.{LumaServed, SamplesServed};
 ghost use Rattle.pixel.specs.Pixel.{swap, lossy, lossless, luma, lines, ycgco8, preparedFor, convert, InsideSource};
 ghost use Rattle.pixel.specs.Ready.{DepthsOf8, Ready};
-ghost use Rattle.row.specs.Row.{Abreast, Every, rowOf};
+ghost use Rattle.row.specs.Row.{Abreast, Every, Made};
 use levels::LumaSetting;
 use pixel::Prepared;
 use pixel::Way;
@@ -26,9 +26,7 @@ fn identity(
     b2: &mut [u16],
 )
     requires { ⌜ Abreast (now a0) (now a1) (now a2) (now b0) (now b1) (now b2) ⌝ }
-    ensures { λ _. ⌜ now (b0 .exit) ≡ rowOf 0 (swap way) (now (a0 .entry)) (now (a1 .entry)) (now (a2 .entry)) ⌝ }
-    ensures { λ _. ⌜ now (b1 .exit) ≡ rowOf 1 (swap way) (now (a0 .entry)) (now (a1 .entry)) (now (a2 .entry)) ⌝ }
-    ensures { λ _. ⌜ now (b2 .exit) ≡ rowOf 2 (swap way) (now (a0 .entry)) (now (a1 .entry)) (now (a2 .entry)) ⌝ }
+    ensures { λ _. ⌜ Made (swap way) (now (a0 .entry)) (now (a1 .entry)) (now (a2 .entry)) (now (b0 .exit)) (now (b1 .exit)) (now (b2 .exit)) ⌝ }
 {
     match way {
         Way::Forward => each::copy_three(a1, a2, a0, b0, b1, b2),
@@ -48,9 +46,7 @@ fn lossy(
 )
     requires { ⌜ Plain d ⌝ }
     requires { ⌜ Abreast (now a0) (now a1) (now a2) (now b0) (now b1) (now b2) ⌝ }
-    ensures { λ _. ⌜ now (b0 .exit) ≡ rowOf 0 (lossy way d) (now (a0 .entry)) (now (a1 .entry)) (now (a2 .entry)) ⌝ }
-    ensures { λ _. ⌜ now (b1 .exit) ≡ rowOf 1 (lossy way d) (now (a0 .entry)) (now (a1 .entry)) (now (a2 .entry)) ⌝ }
-    ensures { λ _. ⌜ now (b2 .exit) ≡ rowOf 2 (lossy way d) (now (a0 .entry)) (now (a1 .entry)) (now (a2 .entry)) ⌝ }
+    ensures { λ _. ⌜ Made (lossy way d) (now (a0 .entry)) (now (a1 .entry)) (now (a2 .entry)) (now (b0 .exit)) (now (b1 .exit)) (now (b2 .exit)) ⌝ }
 {
     match way {
         Way::Forward => each::lossy_forward(d, a0, a1, a2, b0, b1, b2),
@@ -71,9 +67,7 @@ fn lossless(
     requires { ⌜ Roomy d ⌝ }
     requires { ⌜ Abreast (now a0) (now a1) (now a2) (now b0) (now b1) (now b2) ⌝ }
     requires { ⌜ Every (InsideSource way d) (now a0) (now a1) (now a2) ⌝ }
-    ensures { λ _. ⌜ now (b0 .exit) ≡ rowOf 0 (lossless way d) (now (a0 .entry)) (now (a1 .entry)) (now (a2 .entry)) ⌝ }
-    ensures { λ _. ⌜ now (b1 .exit) ≡ rowOf 1 (lossless way d) (now (a0 .entry)) (now (a1 .entry)) (now (a2 .entry)) ⌝ }
-    ensures { λ _. ⌜ now (b2 .exit) ≡ rowOf 2 (lossless way d) (now (a0 .entry)) (now (a1 .entry)) (now (a2 .entry)) ⌝ }
+    ensures { λ _. ⌜ Made (lossless way d) (now (a0 .entry)) (now (a1 .entry)) (now (a2 .entry)) (now (b0 .exit)) (now (b1 .exit)) (now (b2 .exit)) ⌝ }
 {
     match way {
         Way::Forward => each::lossless_forward(d, a0, a1, a2, b0, b1, b2),
@@ -95,9 +89,7 @@ fn ycgco_by_depth(
     requires { ⌜ DepthsOf8 d ⌝ }
     requires { ⌜ Abreast (now a0) (now a1) (now a2) (now b0) (now b1) (now b2) ⌝ }
     requires { ⌜ Every (InsideSource way d) (now a0) (now a1) (now a2) ⌝ }
-    ensures { λ _. ⌜ now (b0 .exit) ≡ rowOf 0 (ycgco8 way d) (now (a0 .entry)) (now (a1 .entry)) (now (a2 .entry)) ⌝ }
-    ensures { λ _. ⌜ now (b1 .exit) ≡ rowOf 1 (ycgco8 way d) (now (a0 .entry)) (now (a1 .entry)) (now (a2 .entry)) ⌝ }
-    ensures { λ _. ⌜ now (b2 .exit) ≡ rowOf 2 (ycgco8 way d) (now (a0 .entry)) (now (a1 .entry)) (now (a2 .entry)) ⌝ }
+    ensures { λ _. ⌜ Made (ycgco8 way d) (now (a0 .entry)) (now (a1 .entry)) (now (a2 .entry)) (now (b0 .exit)) (now (b1 .exit)) (now (b2 .exit)) ⌝ }
 {
     let luma = d.luma.0;
     let chroma = d.chroma.0;
@@ -123,9 +115,7 @@ fn luma(
     requires { ⌜ prepared ≡ Prepared.Lines (lines way s) ⌝ }
     requires { ⌜ Abreast (now a0) (now a1) (now a2) (now b0) (now b1) (now b2) ⌝ }
     requires { ⌜ Every SamplesServed (now a0) (now a1) (now a2) ⌝ }
-    ensures { λ _. ⌜ now (b0 .exit) ≡ rowOf 0 (luma way s) (now (a0 .entry)) (now (a1 .entry)) (now (a2 .entry)) ⌝ }
-    ensures { λ _. ⌜ now (b1 .exit) ≡ rowOf 1 (luma way s) (now (a0 .entry)) (now (a1 .entry)) (now (a2 .entry)) ⌝ }
-    ensures { λ _. ⌜ now (b2 .exit) ≡ rowOf 2 (luma way s) (now (a0 .entry)) (now (a1 .entry)) (now (a2 .entry)) ⌝ }
+    ensures { λ _. ⌜ Made (luma way s) (now (a0 .entry)) (now (a1 .entry)) (now (a2 .entry)) (now (b0 .exit)) (now (b1 .exit)) (now (b2 .exit)) ⌝ }
 {
     match prepared {
         Prepared::Lines(found) => each::luma(found, a0, a1, a2, b0, b1, b2),
@@ -149,9 +139,7 @@ pub fn convert_row(
     requires { ⌜ prepared ≡ preparedFor way s ⌝ }
     requires { ⌜ Abreast (now a0) (now a1) (now a2) (now b0) (now b1) (now b2) ⌝ }
     requires { ⌜ Every (InsideSource way (s .depths)) (now a0) (now a1) (now a2) ⌝ }
-    ensures { λ _. ⌜ now (b0 .exit) ≡ rowOf 0 (convert way s) (now (a0 .entry)) (now (a1 .entry)) (now (a2 .entry)) ⌝ }
-    ensures { λ _. ⌜ now (b1 .exit) ≡ rowOf 1 (convert way s) (now (a0 .entry)) (now (a1 .entry)) (now (a2 .entry)) ⌝ }
-    ensures { λ _. ⌜ now (b2 .exit) ≡ rowOf 2 (convert way s) (now (a0 .entry)) (now (a1 .entry)) (now (a2 .entry)) ⌝ }
+    ensures { λ _. ⌜ Made (convert way s) (now (a0 .entry)) (now (a1 .entry)) (now (a2 .entry)) (now (b0 .exit)) (now (b1 .exit)) (now (b2 .exit)) ⌝ }
 {
     let family = s.family;
     let depths = s.depths;
