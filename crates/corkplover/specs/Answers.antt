@@ -1,12 +1,7 @@
--- The answers of the calls on a pixel and on a sample, and the number and the values that each case stands for.
-use mathlib.Core.Bool.{Bool, true, false, cond}
-use mathlib.Core.List.{List, [], _∷_}
+-- The answers of the calls on a pixel and on a sample.
+use mathlib.Core.Bool.{cond}
 use Prim.Native.Nat.{ℕ}
-use lib.Ieee.{Float}
 use Rattle.sample.specs.declared.Pixel.{Pixel}
-use Rattle.refusal.specs.Table.{nowhere}
-use Rattle.refusal.specs.declared.Place.{Place}
-use Rattle.refusal.specs.declared.Refusal.{Refusal}
 use Rattle.setting.specs.declared.Call.the-variants as call
 use Rattle.setting.specs.declared.Setting.{Setting}
 use Rattle.setting.specs.declared.verdict.Verdict.{Verdict}
@@ -57,38 +52,3 @@ levelsBy p (verdict.Refused r) = levels.Refused r
 
 unfoldable pub levelsAnswer : Setting → Pixel → LevelsAnswer
 levelsAnswer s p = levelsBy p (admitted call.Meter Reverse s p)
-
--- What an answer says in the rules' own terms: 0 or the refusal's number, the place of a 10, the samples and the levels.
--- A refusal gives no samples and no levels.
-pub record Said : Type 0 where
-  pub number : ℕ
-  pub place : Place
-  pub samples : List ℕ
-  pub levels : List Float
-
-abbrev pub saidRefusal : Refusal → Said
-saidRefusal r = record { number = r .number; place = r .place; samples = []; levels = [] }
-
-abbrev pub saidSamples : List ℕ → Said
-saidSamples l = record { number = 0; place = nowhere; samples = l; levels = [] }
-
-abbrev pub saidLevels : List Float → Said
-saidLevels l = record { number = 0; place = nowhere; samples = []; levels = l }
-
-abbrev pub pixelSaid : PixelAnswer → Said
-pixelSaid (pixel.Converted p) = saidSamples (p .p0 ∷ p .p1 ∷ p .p2 ∷ [])
-pixelSaid (pixel.Refused r) = saidRefusal r
-
--- yes is 0 and none is 1
-abbrev pub sourceSaid : SourceAnswer → Said
-sourceSaid source.Yes = saidSamples (0 ∷ [])
-sourceSaid source.NoSource = saidSamples (1 ∷ [])
-sourceSaid (source.Refused r) = saidRefusal r
-
-abbrev pub readingSaid : Reading → Said
-readingSaid (meter.Level x) = saidLevels (x ∷ [])
-readingSaid (meter.Refused r) = saidRefusal r
-
-abbrev pub levelsSaid : LevelsAnswer → Said
-levelsSaid (levels.Levels x) = saidLevels (x .y ∷ x .cb ∷ x .cr ∷ [])
-levelsSaid (levels.Refused r) = saidRefusal r

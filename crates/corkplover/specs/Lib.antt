@@ -1,5 +1,6 @@
 -- What each call answers.
 pub mod Admit
 pub mod Answers
+pub mod Said
 pub mod Packing
 pub mod Left

@@ -4,8 +4,6 @@ use mathlib.Core.Path.{_≡_}
 use mathlib.Core.List.{List, [], _∷_}
 use Prim.Native.Nat.{ℕ, _+_, _-_}
 use lib.ListN.{getD, take, drop}
-use Rattle.refusal.specs.Table.{nowhere}
-use Rattle.refusal.specs.declared.Place.{Place}
 use Rattle.setting.specs.declared.Setting.{Setting}
 use Rattle.setting.specs.declared.verdict.Served.{Served}
 use Rattle.setting.specs.declared.verdict.Verdict.{Verdict}
@@ -72,12 +70,3 @@ FrameLeft way s a b x p0 p1 p2 = (x ≡ frameAnswer way s a b) × PlanesLeft way
 -- the part of a plane that is a row of n samples from index a
 abbrev pub part : List ℕ → ℕ → ℕ → List ℕ
 part p a n = take (a + n - a) (drop a p)
-
--- what an answer says in the rules' numbers: 0 or the refusal's number, and the place of a 10
-abbrev pub frameNumber : FrameAnswer → ℕ
-frameNumber Done = 0
-frameNumber (Refused r) = r .number
-
-abbrev pub framePlace : FrameAnswer → Place
-framePlace Done = nowhere
-framePlace (Refused r) = r .place

@@ -1,5 +1,5 @@
--- Demand 1 on a pixel or a sample: each refusal number is given exactly if its row of the table applies and no earlier one does, and a
--- 10 names the first bad sample. It is shown once of what every such call asks at its door, and then read off each answer.
+-- Demand 1 on a pixel or a sample: each refusal number is given exactly if its row of the table applies and no earlier one does. It is
+-- shown once of what every such call asks at its door, and then read off each answer.
 use mathlib.Core.Path.{_≡_, refl, sym, ap, _∙_}
 use mathlib.Core.Bool.{Bool, true, false, cond}
 use mathlib.Core.List.{List, [], _∷_, _++_}
@@ -28,7 +28,8 @@ use Rattle.pixel.specs.declared.Way.{Way}
 use Rattle.pixel.specs.declared.Way.the-variants.{Forward, Reverse}
 use Rattle.picture.specs.Verdict.{past}
 use Rattle.corkplover.specs.Admit.{badPixel, badOne, admitted, admittedOne}
-use Rattle.corkplover.specs.Answers.{Said, saidRefusal, convertedBy, pixelAnswer, pixelSaid, sourceBy, sourceAnswer, sourceSaid, readBy, reading, readingSaid, levelsBy, levelsAnswer, levelsSaid}
+use Rattle.corkplover.specs.Answers.{convertedBy, pixelAnswer, sourceBy, sourceAnswer, readBy, reading, levelsBy, levelsAnswer}
+use Rattle.corkplover.specs.Said.{pixelSaid, sourceSaid, readingSaid, levelsSaid}
 use Rattle.corkplover.specs.declared.one_pixel.SourceAnswer.the-variants as source
 use Rattle.promises.specs.Tables.{isFound, thenBad, pixelTable, sampleTable}
 
