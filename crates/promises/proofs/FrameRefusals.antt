@@ -68,7 +68,7 @@ found-number : (f : Found) → imageSaid (answerFound f) .number ≡ 0
 found-number (found.At place) = refl
 found-number found.Nothing = refl
 
-image-number : (v : Verdict) (a : Picture) → imageSaid (image.answerBy v a) .number ≡ number v
+pub image-number : (v : Verdict) (a : Picture) → imageSaid (image.answerBy v a) .number ≡ number v
 image-number (verdict.Served x) a = found-number (firstSourceless x a)
 image-number (verdict.Refused r) a = refl
 

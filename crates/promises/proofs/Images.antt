@@ -2,34 +2,43 @@
 -- otherwise names the first pixel that no RGB pixel within depth converts to.
 use mathlib.Core.Path.{_≡_, refl, sym, ap, _∙_, subst}
 use mathlib.Core.Bool.{true, false, true≢false, not}
-use mathlib.Core.List.{List, []}
+use mathlib.Core.List.{List, [], _∷_}
 use mathlib.Core.Logic.{_↔_, _⊎_, inl, inr}
-use Prim.Native.Nat.{ℕ, _<_}
+use Prim.Native.Nat.{ℕ, _≤_, _<_}
 use native.Mathlib.Omega.{arith}
 use borrow.Author.Tests.{not-true, not-false}
+use lib.ListN.{length}
 use Rattle.sample.specs.Depth.{InsideRGB, InsideYCC}
 use Rattle.sample.proofs.Picks.{must}
+use Rattle.refusal.specs.Table.{row, first, orElse}
 use Rattle.refusal.specs.declared.Place.{Place}
+use Rattle.refusal.proofs.TableLaws.{neither}
 use Rattle.plane.specs.First.{IsFirstPlace}
 use Rattle.plane.specs.Plane.{planeOf, sampleAt}
-use Rattle.plane.specs.Sizes.{needed}
+use Rattle.plane.specs.Sizes.{needed, LongSide}
 use Rattle.plane.specs.declared.search.Found.{Found}
 use Rattle.plane.specs.declared.search.Found.the-variants as found
-use Rattle.plane.proofs.PlaneTheorems.{plane-inside}
+use Rattle.plane.proofs.PlaneTheorems.{plane-length, plane-inside}
 use Rattle.plane.proofs.SearchTheorems.{no-place-means, first-place-means}
 use Rattle.setting.specs.Refusals.{depths, served, refusalOf}
 use Rattle.setting.specs.declared.Call.the-variants as call
 use Rattle.setting.specs.declared.Setting.{Setting}
+use Rattle.setting.specs.declared.verdict.Verdict.the-variants as verdict
 use Rattle.pixel.specs.Pixel.{convert}
 use Rattle.pixel.specs.Source.{HasSource, hasSource}
 use Rattle.pixel.specs.declared.Way.the-variants.{Forward, Reverse}
 use Rattle.pixel.proofs.ReadyLaws.{ready}
 use Rattle.pixel.proofs.PixelTheorems.{reverse-inside, same-pixel}
-use Rattle.picture.specs.Picture.{Picture, picture, pixelOf, EveryPixel}
+use Rattle.picture.specs.Picture.{Picture, picture, pixelOf, sideOfPicture, EveryPixel}
+use Rattle.picture.specs.Verdict.{beyondDepth, numberBefore10, pictureVerdict}
 use Rattle.picture.proofs.Accepted.{Accepted, of-accepted, pixels-inside}
 use Rattle.row.specs.Row.{sampleOf}
 use Rattle.image.specs.Image.{sourceless, firstSourceless, answerFound, answerBy, imageAnswer}
 use Rattle.image.specs.declared.ImageAnswer.the-variants.{Yes, NoSource}
+use Rattle.corkplover.specs.Said.{imageSaid}
+use Rattle.promises.specs.Tables.{isFound}
+use Rattle.promises.proofs.Refusals.{number, past-number}
+use Rattle.promises.proofs.FrameRefusals.{image-number}
 use Rattle.promises.proofs.Lossless.{source-exactly}
 use Rattle.promises.proofs.Frames.{index-inside}
 
@@ -38,6 +47,8 @@ pub record SourcePicture (s : Setting) (a : Picture) : Type 0 where
   pub source : Picture
   pub width-is : source .width ≡ a .width
   pub height-is : source .height ≡ a .height
+  pub stride-is : source .width ≤ source .stride
+  pub long : LongSide (source .width) (source .height) (sideOfPicture source)
   pub inside : EveryPixel (InsideRGB (depths s)) source
   pub converts : (j i : ℕ) → j < a .height → i < a .width → convert Forward (served s) (pixelOf source j i) ≡ pixelOf a j i
 
@@ -49,6 +60,32 @@ yes-found found.Nothing e = refl
 none-found : (f : Found) (place : Place) → answerFound f ≡ NoSource place → f ≡ found.At place
 none-found (found.At q) place e = let g : q ≡ place = cc in ap found.At g
 none-found found.Nothing place e = absurd (let z : _≡_ {A = ℕ} 0 1 = cc in omega arith)
+
+-- nothing was found, as row 10 says
+none-there : (f : Found) → first (row 10 (isFound f) ∷ []) ≡ 0 → f ≡ found.Nothing
+unfolding first
+none-there (found.At place) e = absurd (omega arith)
+none-there found.Nothing e = refl
+
+verdict-number : (s : Setting) (a : Picture)
+    → number (pictureVerdict call.ImageCheck Reverse s a [])
+    ≡ orElse (numberBefore10 call.ImageCheck s a []) (first (row 10 (isFound (beyondDepth Reverse (depths s) a)) ∷ []))
+unfolding pictureVerdict
+verdict-number s a = past-number (numberBefore10 call.ImageCheck s a []) (served s) (beyondDepth Reverse (depths s) a)
+
+-- the image check is not refused exactly if no row applies
+pub image-accepted : (s : Setting) (a : Picture) → (imageSaid (imageAnswer s a) .number ≡ 0) ↔ Accepted call.ImageCheck Reverse s a []
+unfolding imageAnswer
+image-accepted s a = (
+  λ e.
+      let f = beyondDepth Reverse (depths s) a in
+      let n = neither (numberBefore10 call.ImageCheck s a []) _ (sym (verdict-number s a) ∙ sym (image-number (pictureVerdict call.ImageCheck Reverse s a []) a) ∙ e) in
+      let m = neither (refusalOf call.ImageCheck s) _ (n .0) in
+      record { setting = m .0; sizes = m .1; samples = none-there f (n .1) },
+  λ k.
+      ap (λ v. imageSaid (answerBy v a) .number) (of-accepted call.ImageCheck Reverse s a [] k)
+      ∙ image-number (verdict.Served (served s)) a,
+)
 
 -- a pixel without a source was named
 pub record Named (s : Setting) (a : Picture) : Type 0 where
@@ -94,6 +131,12 @@ module _ (s : Setting) (a : Picture) (k : Accepted call.ImageCheck Reverse s a [
   abbrev made : Picture
   made = picture (a .width) (a .height) (a .width) (plane 0) (plane 1) (plane 2)
 
+  made-long : LongSide (a .width) (a .height) (sideOfPicture made)
+  made-long =
+      let long : (n : ℕ) → needed (a .width) (a .height) (a .width) ≤ length (plane n) =
+      λ n. let e = plane-length (needed (a .width) (a .height) (a .width)) (a .width) (a .width) (a .height) (sample n) in omega arith in
+      record { long0 = long 0; long1 = long 1; long2 = long 2 }
+
   made-sample : (n j i : ℕ) → j < a .height → i < a .width → sampleAt (plane n) (a .width) j i ≡ sample n j i
   made-sample n j i x y =
       plane-inside (needed (a .width) (a .height) (a .width)) (a .width) (a .width) (a .height) (sample n) j i x y (omega arith)
@@ -109,6 +152,8 @@ module _ (s : Setting) (a : Picture) (k : Accepted call.ImageCheck Reverse s a [
         source = made;
         width-is = refl;
         height-is = refl;
+        stride-is = omega arith;
+        long = made-long;
         inside = λ j i x y.
             subst (InsideRGB (depths s)) (sym (made-pixel j i x y))
             (reverse-inside (served s) (pixelOf a j i) (ready call.ImageCheck s e) (within j i x y));

@@ -1,12 +1,13 @@
 -- Demand 3 on a pixel, over settings as they are handed in. A lossless setting is one that the source check does not refuse.
 use mathlib.Core.Path.{_≡_, refl, sym, ap, _∙_}
-use mathlib.Core.Bool.{Bool, true, false, cond}
+use mathlib.Core.Bool.{Bool, true, false, true≢false, cond}
+use mathlib.Core.Logic.{_↔_}
 use Prim.Native.Nat.{ℕ}
 use native.Mathlib.Omega.{arith}
 use Rattle.sample.specs.Depth.{InsideRGB, InsideYCC}
 use Rattle.sample.specs.declared.Pixel.{Pixel}
-use Rattle.setting.specs.Agreement.{lossless}
-use Rattle.setting.specs.Refusals.{family, depths, served, refusalOf}
+use Rattle.sample.proofs.Picks.{cannot}
+use Rattle.setting.specs.Refusals.{depths, served, judged, refusalOf}
 use Rattle.setting.specs.declared.Call.the-variants as call
 use Rattle.setting.specs.declared.Setting.{Setting}
 use Rattle.pixel.specs.Pixel.{convert}
@@ -14,6 +15,19 @@ use Rattle.pixel.specs.Source.{HasSource, hasSource}
 use Rattle.pixel.specs.declared.Way.the-variants.{Forward, Reverse}
 use Rattle.pixel.proofs.ReadyLaws.{ready, is-lossless}
 use Rattle.pixel.proofs.PixelTheorems.{trip, one-to-one, tested, has-source}
+use Rattle.corkplover.specs.Admit.{admitted}
+use Rattle.corkplover.specs.Answers.{sourceAnswer}
+use Rattle.corkplover.specs.declared.one_pixel.SourceAnswer.the-variants as source
+use Rattle.promises.proofs.Accepted.{no-bad}
+
+-- which of the two was picked
+picked-yes : (b : Bool) → cond b source.Yes source.NoSource ≡ source.Yes → b ≡ true
+picked-yes true q = refl
+picked-yes false q = absurd (let z : _≡_ {A = ℕ} 0 1 = cc in omega arith)
+
+picked-none : (b : Bool) → cond b source.Yes source.NoSource ≡ source.NoSource → b ≡ false
+picked-none true q = absurd (let z : _≡_ {A = ℕ} 0 1 = cc in omega arith)
+picked-none false q = refl
 
 module _ (s : Setting) (e : refusalOf call.ImageCheck s ≡ 0) where
   -- reverse after forward is the pixel
@@ -29,3 +43,20 @@ module _ (s : Setting) (e : refusalOf call.ImageCheck s ≡ 0) where
   source-exactly p h =
       let r = ready call.ImageCheck s e in
       (tested (served s) p r (is-lossless s e) h, has-source (served s) p r (is-lossless s e))
+
+  -- so does the call: a pixel within depth is answered by that test
+  answered : (p : Pixel) → InsideYCC (depths s) p → sourceAnswer s p ≡ cond (hasSource (served s) p) source.Yes source.NoSource
+  unfolding sourceAnswer admitted judged
+  answered p h = rw (e, no-bad Reverse (depths s) p h)
+
+  pub source-yes : (p : Pixel) → InsideYCC (depths s) p → (sourceAnswer s p ≡ source.Yes) ↔ HasSource (served s) p
+  source-yes p h =
+      let t = source-exactly p h in
+      (λ q. t .0 (picked-yes _ (sym (answered p h) ∙ q)), λ k. answered p h ∙ ap (λ b. cond b source.Yes source.NoSource) (t .1 k))
+
+  pub source-none : (p : Pixel) → InsideYCC (depths s) p → (sourceAnswer s p ≡ source.NoSource) ↔ (HasSource (served s) p → ⊥)
+  source-none p h =
+      let t = source-exactly p h in (
+        λ q k. true≢false (sym (t .1 k) ∙ picked-none _ (sym (answered p h) ∙ q)),
+        λ f. answered p h ∙ ap (λ b. cond b source.Yes source.NoSource) (cannot (hasSource (served s) p) (λ q. f (t .0 q))),
+      )

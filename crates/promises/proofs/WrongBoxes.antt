@@ -20,6 +20,8 @@ use Rattle.plane.specs.First.{orElse, firstOf, placeIf, placeInRow, firstPlace,
 use Rattle.ycgco.specs.YCgCo.{losslessForward, losslessReverse}
 use Rattle.setting.specs.Agreement.{depthsServed}
 use Rattle.setting.specs.Refusals.{refusalOf, judged}
+use Rattle.setting.specs.declared.Call.the-variants as call
+use Rattle.setting.specs.declared.Setting.{Setting}
 use Rattle.pixel.specs.Pixel.{convert}
 use Rattle.pixel.specs.Source.{hasSource}
 use Rattle.corkplover.specs.declared.one_pixel.PixelAnswer.{PixelAnswer}
@@ -87,3 +89,21 @@ red-has-source = refl
 pub none-has-source : sourceAnswer (with 8 8 8 9 true true) (pixel 0 256 511) ≡ source.NoSource
 unfolding sourceAnswer admitted refusalOf judged first matrixOf labelled among depthsServed areDepths isDepth atMost badSample firstBad firstPlace placeInRow placeIf firstOf orElse hasSource convert losslessForward losslessReverse half clip sample
 none-has-source = refl
+
+-- a list of lossless settings that is empty or too long: codes 0, 8 with chroma one bit deeper, 15 and 16 are taken by the image check;
+-- code 8 with chroma as deep as luma, and a luma matrix, are not
+abbrev checked : List Setting → List ℕ
+checked [] = []
+checked (s ∷ ss) = refusalOf call.ImageCheck s ∷ checked ss
+
+pub lossless-settings : checked
+    (with 0 8 8 8 true true
+    ∷ with 8 8 8 9 true true
+    ∷ with 15 8 10 10 true true
+    ∷ with 16 8 9 9 true true
+    ∷ with 8 8 8 8 true true
+    ∷ with 1 8 8 8 true true
+    ∷ [])
+    ≡ 0 ∷ 0 ∷ 0 ∷ 0 ∷ 11 ∷ 11 ∷ []
+unfolding refusalOf first matrixOf labelled among depthsServed areDepths isDepth atMost
+lossless-settings = refl
