@@ -7,6 +7,7 @@ pub mod ExportsOnce
 pub mod Lossless
 pub mod Accepted
 pub mod Fields
+pub mod Unpacked
 pub mod FrameRefusals
 pub mod Frames
 pub mod FrameLossless
