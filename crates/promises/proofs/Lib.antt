@@ -8,6 +8,7 @@ pub mod Lossless
 pub mod Accepted
 pub mod Fields
 pub mod Unpacked
+pub mod FrameUnpacked
 pub mod FrameRefusals
 pub mod Frames
 pub mod FrameLossless

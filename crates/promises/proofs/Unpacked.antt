@@ -1,25 +1,20 @@
--- What an exported call packs into one number comes out again: of every answer its refusal and the place, of an accepted pixel its
--- samples, of the image check its word. So the promises on answers hold of the numbers that C callers see.
-use mathlib.Core.Path.{_≡_, refl, sym, ap, _∙_, subst}
+-- What an exported call packs into one number comes out again: the refusal and the place of every answer, and the samples of an accepted
+-- pixel. So the promises on answers hold of the numbers that callers from other languages see.
+use mathlib.Core.Path.{_≡_, refl, sym, _∙_, subst}
 use mathlib.Core.Bool.{Bool, true, false, cond}
 use mathlib.Core.List.{List, [], _∷_}
-use Prim.Native.Nat.{ℕ, zero, suc, _^_, _≤_, _<_}
+use Prim.Native.Nat.{ℕ, zero, suc, _^_, _<_}
 use native.Mathlib.Omega.{arith}
 use borrow.Author.Tests.{ne-eqb}
-use lib.Dec.{eqb}
 use Rattle.sample.specs.Depth.{Depth, mostDepth, InsideRGB, InsideYCC}
 use Rattle.sample.specs.declared.Pixel.{Pixel}
 use Rattle.sample.proofs.DepthLaws.{powers}
 use Rattle.refusal.specs.Table.{Row, first, plain, badAt}
 use Rattle.refusal.specs.declared.Place.{Place}
 use Rattle.refusal.specs.declared.Refusal.{Refusal}
-use Rattle.refusal.proofs.TableLaws.{neither}
-use Rattle.plane.specs.Sizes.{sizeRows, sizeRefusal}
 use Rattle.plane.specs.declared.search.Found.{Found}
 use Rattle.plane.specs.declared.search.Found.the-variants as found
-use Rattle.plane.specs.declared.size.Side.{Side}
 use Rattle.plane.proofs.SearchTheorems.{at-in-planes-means, at-means}
-use Rattle.plane.proofs.SizeTheorems as sizes
 use Rattle.setting.specs.Refusals.{depths, table, refusalOf, served, judged}
 use Rattle.setting.specs.declared.Call.{Call}
 use Rattle.setting.specs.declared.Call.the-variants as call
@@ -35,22 +30,14 @@ use Rattle.pixel.specs.declared.Way.{Way}
 use Rattle.pixel.specs.declared.Way.the-variants.{Forward, Reverse}
 use Rattle.pixel.proofs.ReadyLaws.{ready}
 use Rattle.pixel.proofs.PixelTheorems.{forward-inside, reverse-inside}
-use Rattle.picture.specs.Picture.{Picture, planes, sideOfPicture}
-use Rattle.picture.specs.Verdict.{beyondDepth, pastServed, past, numberBefore10, pictureVerdict}
-use Rattle.picture.proofs.Accepted.{Accepted, sides-served}
-use Rattle.frame.specs.Frame.{frameAnswer}
-use Rattle.frame.specs.Frame as frame
-use Rattle.image.specs.Image.{firstSourceless, answerFound, imageAnswer}
-use Rattle.image.specs.Image as image
-use Rattle.image.specs.declared.ImageAnswer.the-variants.{NoSource}
+use Rattle.picture.specs.Verdict.{pastServed, past}
 use Rattle.corkplover.specs.Admit.{topOf, badPixel, badOne, admitted, admittedOne}
 use Rattle.corkplover.specs.Answers.{convertedBy, pixelAnswer, readBy, reading, levelsBy, levelsAnswer}
 use Rattle.corkplover.specs.declared.one_pixel.PixelAnswer.the-variants.{Converted}
-use Rattle.corkplover.specs.Said.{Said, saidRefusal, pixelSaid, readingSaid, levelsSaid, frameSaid, imageSaid}
-use Rattle.corkplover.specs.Packing.{packed, numberIn, secondIn, firstIn, middleIn, lastIn, packedRefusal, packedPixel, packedReading, packedLevels, packedFrame, packedImage}
+use Rattle.corkplover.specs.Said.{Said, saidRefusal, pixelSaid, readingSaid, levelsSaid}
+use Rattle.corkplover.specs.Packing.{packed, numberIn, secondIn, firstIn, middleIn, lastIn, packedRefusal, packedPixel, packedReading, packedLevels}
 use Rattle.promises.proofs.Accepted.{accepted}
 use Rattle.promises.proofs.Fields.{fields}
-use Rattle.promises.proofs.Images.{image-none}
 
 -- the number that a call returns, and what its answer says
 pub record Unpacked (x : ℕ) (said : Said) : Type 0 where
@@ -68,7 +55,7 @@ refusal-unpacked r h k =
     let f = fields (r .number) (r .place .plane) (r .place .row) (r .place .column) 0 h (k .plane-fits) (k .row-fits) (k .column-fits) (omega arith) in
     record { number-out = f .number-out; place-out = λ t. (f .second-out, (f .first-out, f .middle-out)) }
 
-free-unpacked : (x : ℕ) (said : Said) → numberIn x ≡ 0 → said .number ≡ 0 → Unpacked x said
+pub free-unpacked : (x : ℕ) (said : Said) → numberIn x ≡ 0 → said .number ≡ 0 → Unpacked x said
 free-unpacked x said e f = record { number-out = e ∙ sym f; place-out = λ t. absurd (t f) }
 
 -- of a verdict, whatever was searched for a bad sample
@@ -92,20 +79,20 @@ module _ (pack : Verdict → ℕ) (say : Verdict → Said) (x : Served) (free : 
         (by-refusal (plain (suc n)) h (record { plane-fits = omega arith; row-fits = omega arith; column-fits = omega arith }))
 
 -- the first row of a table has a number that some row has
-abbrev Small : List Row → Type 0
+abbrev pub Small : List Row → Type 0
 Small [] = Unit
 Small (r ∷ rs) = (r .number < 256) × Small rs
 
-pick-small : (t : Bool) (n m : ℕ) → n < 256 → m < 256 → cond t n m < 256
+pub pick-small : (t : Bool) (n m : ℕ) → n < 256 → m < 256 → cond t n m < 256
 pick-small true n m h k = h
 pick-small false n m h k = k
 
-first-small : (rs : List Row) → Small rs → first rs < 256
+pub first-small : (rs : List Row) → Small rs → first rs < 256
 unfolding first
 first-small [] h = omega arith
 first-small (r ∷ rs) h = pick-small (r .applies) (r .number) (first rs) (h .0) (first-small rs (h .1))
 
-setting-small : (c : Call) (s : Setting) → refusalOf c s < 256
+pub setting-small : (c : Call) (s : Setting) → refusalOf c s < 256
 unfolding refusalOf
 setting-small c s =
     first-small (table c s)
@@ -193,60 +180,3 @@ module _ (s : Setting) (p : Pixel) where
       let i = reverse-inside (served s) p r h in
       rw (accepted Reverse s p e h)
       (samples-out (convert Reverse (served s) p) (below _ _ (r .rgb) (i .in0)) (below _ _ (r .rgb) (i .in1)) (below _ _ (r .rgb) (i .in2)))
-
--- ---- calls on a picture
-
-module _ (c : Call) (w : Way) (s : Setting) (a : Picture) (others : List Side) where
-  before-small : numberBefore10 c s a others < 256
-  unfolding sizeRefusal
-  before-small =
-      pick-small (eqb (refusalOf c s) 0) _ (refusalOf c s)
-      (first-small (sizeRows (a .width) (a .height) (sideOfPicture a ∷ others)) (omega arith, (omega arith, tt))) (setting-small c s)
-
-  -- a place inside a picture of a served size
-  picture-fits : numberBefore10 c s a others ≡ 0 → (place : Place) → beyondDepth w (depths s) a ≡ found.At place → Fits place
-  picture-fits z place e =
-      let sized = sizes.served _ _ _ (neither (refusalOf c s) _ z .1) .0 .sized in
-      let b = at-in-planes-means (planes a) (a .stride) (a .width) (a .height) _ place .0 e in
-      record {
-        plane-fits = omega (arith, b .plane-inside);
-        row-fits = omega (arith, b .first-there .row-inside, sized .height-within .to-most);
-        column-fits = omega (arith, b .first-there .column-inside, sized .width-within .to-most);
-      }
-
-  module _ (pack : Verdict → ℕ) (say : Verdict → Said) (free : Unpacked (pack (verdict.Served (served s))) (say (verdict.Served (served s))))
-      (packs : (r : Refusal) → pack (verdict.Refused r) ≡ packedRefusal r) (refuses : (r : Refusal) → say (verdict.Refused r) ≡ saidRefusal r)
-    where
-      on-picture : Unpacked (pack (pictureVerdict c w s a others)) (say (pictureVerdict c w s a others))
-      unfolding pictureVerdict
-      on-picture =
-          verdict-unpacked pack say (served s) free packs refuses (beyondDepth w (depths s) a) (numberBefore10 c s a others) before-small picture-fits
-
-pub frame-unpacked : (w : Way) (s : Setting) (a : Picture) (b : Side) → Unpacked (packedFrame (frameAnswer w s a b)) (frameSaid (frameAnswer w s a b))
-unfolding frameAnswer
-frame-unpacked w s a b =
-    on-picture (callOf w) w s a (b ∷ []) (λ v. packedFrame (frame.answerBy v)) (λ v. frameSaid (frame.answerBy v)) (free-unpacked _ _ refl refl)
-    (λ r. refl) (λ r. refl)
-
-found-unpacked : (f : Found) → Unpacked (packedImage (answerFound f)) (imageSaid (answerFound f))
-found-unpacked (found.At place) = free-unpacked _ _ (word-above (place .row) (place .column)) refl
-  where
-    word-above : (a b : ℕ) → numberIn (packed 0 1 a b 0) ≡ 0
-    word-above a b = omega arith
-found-unpacked found.Nothing = free-unpacked _ _ refl refl
-
-pub image-unpacked : (s : Setting) (a : Picture) → Unpacked (packedImage (imageAnswer s a)) (imageSaid (imageAnswer s a))
-unfolding imageAnswer
-image-unpacked s a =
-    on-picture call.ImageCheck Reverse s a [] (λ v. packedImage (image.answerBy v a)) (λ v. imageSaid (image.answerBy v a))
-    (found-unpacked (firstSourceless (served s) a)) (λ r. refl) (λ r. refl)
-
--- the image check's word: 1 with the row and the column of the pixel that has no source (a yes is the number 0)
-pub none-unpacked : (s : Setting) (a : Picture) (place : Place) → Accepted call.ImageCheck Reverse s a [] → imageAnswer s a ≡ NoSource place
-    → let x = packedImage (imageAnswer s a) in
-    (secondIn x ≡ 1) × ((firstIn x ≡ place .row) × (middleIn x ≡ place .column))
-none-unpacked s a place k e =
-    let sized = sides-served call.ImageCheck Reverse s a [] k .0 .sized in
-    let b = image-none s a k place .0 e in
-    let f = fields 0 1 (place .row) (place .column) 0 (omega arith) (omega arith) (omega (arith, b .row-inside, sized .height-within .to-most)) (omega (arith, b .column-inside, sized .width-within .to-most)) (omega arith) in
-    rw e (f .second-out, (f .first-out, f .middle-out))
