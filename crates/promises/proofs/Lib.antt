@@ -3,7 +3,9 @@ pub mod Marked
 pub mod Refusals
 pub mod Places
 pub mod Once
-pub mod ExportsOnce
+pub mod Remains
+pub mod Contracts
+pub mod ExportContracts
 pub mod Lossless
 pub mod Accepted
 pub mod Fields

@@ -1,0 +1,89 @@
+-- Every entry point's own contract, as it stands in the source: it asks nothing of its arguments, and any two results that it allows are
+-- equal, with what stands behind each `&mut`. `Pre` and `Post` are what the contract's clauses come to; `a` are the arguments, `r` is the
+-- result, and `s` has, parameter by parameter, what is there when the call returns.
+use mathlib.Core.Path.{_≡_}
+use denote.Ref.{now}
+use Rattle.corkplover.proofs.labels.primaries_label.Reads as primaries-label
+use Rattle.corkplover.proofs.labels.transfer_label.Reads as transfer-label
+use Rattle.corkplover.proofs.labels.matrix_label.Reads as matrix-label
+use Rattle.corkplover.proofs.one_pixel.forward_pixel.Reads as forward-pixel
+use Rattle.corkplover.proofs.one_pixel.reverse_pixel.Reads as reverse-pixel
+use Rattle.corkplover.proofs.one_pixel.source_pixel.Reads as source-pixel
+use Rattle.corkplover.proofs.spot.meter_sample.Reads as meter-sample
+use Rattle.corkplover.proofs.spot.meter_pixel.Reads as meter-pixel
+use Rattle.corkplover.proofs.frames.check_image.Reads as check-image
+use Rattle.corkplover.proofs.frames.forward_frame.Reads as forward-frame
+use Rattle.corkplover.proofs.frames.reverse_frame.Reads as reverse-frame
+use Rattle.promises.proofs.Once.{once, once-all}
+
+pub primaries-label-asks-nothing : (κs : _) (a : _) → primaries-label.Pre κs a
+primaries-label-asks-nothing κs a = tt
+
+pub primaries-label-once : (κs : _) (a : _) (r r' : _) (s s' : _) → primaries-label.Post κs a r s → primaries-label.Post κs a r' s' → r ≡ r'
+primaries-label-once κs a r r' s s' = once
+
+pub transfer-label-asks-nothing : (κs : _) (a : _) → transfer-label.Pre κs a
+transfer-label-asks-nothing κs a = tt
+
+pub transfer-label-once : (κs : _) (a : _) (r r' : _) (s s' : _) → transfer-label.Post κs a r s → transfer-label.Post κs a r' s' → r ≡ r'
+transfer-label-once κs a r r' s s' = once
+
+pub matrix-label-asks-nothing : (κs : _) (a : _) → matrix-label.Pre κs a
+matrix-label-asks-nothing κs a = tt
+
+pub matrix-label-once : (κs : _) (a : _) (r r' : _) (s s' : _) → matrix-label.Post κs a r s → matrix-label.Post κs a r' s' → r ≡ r'
+matrix-label-once κs a r r' s s' = once
+
+pub forward-pixel-asks-nothing : (κs : _) (a : _) → forward-pixel.Pre κs a
+forward-pixel-asks-nothing κs a = tt
+
+pub forward-pixel-once : (κs : _) (a : _) (r r' : _) (s s' : _) → forward-pixel.Post κs a r s → forward-pixel.Post κs a r' s' → r ≡ r'
+forward-pixel-once κs a r r' s s' = once
+
+pub reverse-pixel-asks-nothing : (κs : _) (a : _) → reverse-pixel.Pre κs a
+reverse-pixel-asks-nothing κs a = tt
+
+pub reverse-pixel-once : (κs : _) (a : _) (r r' : _) (s s' : _) → reverse-pixel.Post κs a r s → reverse-pixel.Post κs a r' s' → r ≡ r'
+reverse-pixel-once κs a r r' s s' = once
+
+pub source-pixel-asks-nothing : (κs : _) (a : _) → source-pixel.Pre κs a
+source-pixel-asks-nothing κs a = tt
+
+pub source-pixel-once : (κs : _) (a : _) (r r' : _) (s s' : _) → source-pixel.Post κs a r s → source-pixel.Post κs a r' s' → r ≡ r'
+source-pixel-once κs a r r' s s' = once
+
+pub meter-sample-asks-nothing : (κs : _) (a : _) → meter-sample.Pre κs a
+meter-sample-asks-nothing κs a = tt
+
+pub meter-sample-once : (κs : _) (a : _) (r r' : _) (s s' : _) → meter-sample.Post κs a r s → meter-sample.Post κs a r' s' → r ≡ r'
+meter-sample-once κs a r r' s s' = once
+
+pub meter-pixel-asks-nothing : (κs : _) (a : _) → meter-pixel.Pre κs a
+meter-pixel-asks-nothing κs a = tt
+
+pub meter-pixel-once : (κs : _) (a : _) (r r' : _) (s s' : _) → meter-pixel.Post κs a r s → meter-pixel.Post κs a r' s' → r ≡ r'
+meter-pixel-once κs a r r' s s' = once
+
+pub check-image-asks-nothing : (κs : _) (a : _) → check-image.Pre κs a
+check-image-asks-nothing κs a = tt
+
+pub check-image-once : (κs : _) (a : _) (r r' : _) (s s' : _) → check-image.Post κs a r s → check-image.Post κs a r' s' → r ≡ r'
+check-image-once κs a r r' s s' = once
+
+pub forward-frame-asks-nothing : (κs : _) (a : _) → forward-frame.Pre κs a
+forward-frame-asks-nothing κs a = tt
+
+pub forward-frame-once : (κs : _) (a : _) (r r' : _) (s s' : _) → forward-frame.Post κs a r s → forward-frame.Post κs a r' s'
+    → let t = s .1 .1 .1 .1 .1 in
+    let t' = s' .1 .1 .1 .1 .1 in
+    (r ≡ r') × ((now (t .0) ≡ now (t' .0)) × ((now (t .1 .0) ≡ now (t' .1 .0)) × (now (t .1 .1 .0) ≡ now (t' .1 .1 .0))))
+forward-frame-once κs a r r' s s' = once-all
+
+pub reverse-frame-asks-nothing : (κs : _) (a : _) → reverse-frame.Pre κs a
+reverse-frame-asks-nothing κs a = tt
+
+pub reverse-frame-once : (κs : _) (a : _) (r r' : _) (s s' : _) → reverse-frame.Post κs a r s → reverse-frame.Post κs a r' s'
+    → let t = s .1 .1 .1 .1 .1 in
+    let t' = s' .1 .1 .1 .1 .1 in
+    (r ≡ r') × ((now (t .0) ≡ now (t' .0)) × ((now (t .1 .0) ≡ now (t' .1 .0)) × (now (t .1 .1 .0) ≡ now (t' .1 .1 .0))))
+reverse-frame-once κs a r r' s s' = once-all
