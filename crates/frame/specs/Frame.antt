@@ -3,8 +3,6 @@
 use mathlib.Core.List.{List, [], _∷_}
 use Prim.Native.Nat.{ℕ, _+_, _-_}
 use lib.ListN.{getD, take, drop}
-use Rattle.refusal.specs.Table.{nowhere}
-use Rattle.refusal.specs.declared.Place.{Place}
 use Rattle.setting.specs.declared.Setting.{Setting}
 use Rattle.setting.specs.declared.verdict.Served.{Served}
 use Rattle.setting.specs.declared.verdict.Verdict.{Verdict}
@@ -65,11 +63,7 @@ outPlane k way s a b = planeBy (frameVerdict way s a b) k way a (b .stride) (len
 abbrev pub part : List ℕ → ℕ → ℕ → List ℕ
 part p a n = take (a + n - a) (drop a p)
 
--- what an answer says in the rules' numbers: 0 or the refusal's number, and the place of a 10
+-- what an answer says in the rules' numbers: 0 or the refusal's number
 abbrev pub frameNumber : FrameAnswer → ℕ
 frameNumber Done = 0
 frameNumber (Refused r) = r .number
-
-abbrev pub framePlace : FrameAnswer → Place
-framePlace Done = nowhere
-framePlace (Refused r) = r .place

@@ -2,8 +2,6 @@
 use mathlib.Core.Bool.{Bool, not}
 use mathlib.Core.List.{[]}
 use Prim.Native.Nat.{ℕ}
-use Rattle.refusal.specs.Table.{nowhere}
-use Rattle.refusal.specs.declared.Place.{Place}
 use Rattle.setting.specs.declared.Call.the-variants as call
 use Rattle.setting.specs.declared.Setting.{Setting}
 use Rattle.setting.specs.declared.verdict.Served.{Served}
@@ -39,13 +37,8 @@ answerBy (verdict.Refused r) a = Refused r
 unfoldable pub imageAnswer : Setting → Picture → ImageAnswer
 imageAnswer s a = answerBy (pictureVerdict call.ImageCheck Reverse s a []) a
 
--- what an answer says in the rules' numbers: 0 or the refusal's number, and the place of a 10 or of the pixel without a source
+-- what an answer says in the rules' numbers: 0 or the refusal's number
 abbrev pub imageNumber : ImageAnswer → ℕ
 imageNumber Yes = 0
 imageNumber (NoSource place) = 0
 imageNumber (Refused r) = r .number
-
-abbrev pub imagePlace : ImageAnswer → Place
-imagePlace Yes = nowhere
-imagePlace (NoSource place) = place
-imagePlace (Refused r) = r .place

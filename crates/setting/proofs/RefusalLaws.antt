@@ -1,11 +1,9 @@
 -- The refusal table, row by row: what the code has found out so far decides the first row that applies.
 use mathlib.Core.Path.{_≡_, refl, sym, ap, _∙_}
-use mathlib.Core.Bool.{Bool, true, false, cond}
+use mathlib.Core.Bool.{Bool, true, false}
 use Prim.Native.Nat.{ℕ}
-use native.Mathlib.Omega.{arith}
 use borrow.Author.Tests.{ne-eqb}
-use lib.Dec.{eqb}
-use Rattle.refusal.specs.Table.{first, orElse, Numbered, plain}
+use Rattle.refusal.specs.Table.{first, orElse, plain}
 use Rattle.refusal.proofs.TableLaws.{first-append}
 use Rattle.setting.specs.Label.{isReserved, primariesLabel, transferLabel}
 use Rattle.setting.specs.Matrix.{matrixOf}
@@ -13,7 +11,6 @@ use Rattle.setting.specs.Refusals.{standing, family, codeRows, depthRows
 use Rattle.setting.specs.declared.Call.{Call}
 use Rattle.setting.specs.declared.Setting.{Setting}
 use Rattle.setting.specs.declared.label.Label.{Label}
-use Rattle.setting.specs.declared.matrix.Family.{Family}
 use Rattle.setting.specs.declared.matrix.Matrix.{Matrix}
 use Rattle.setting.specs.declared.matrix.Matrix.the-variants as matrix
 use Rattle.setting.specs.declared.verdict.Served.{Served}
@@ -55,7 +52,3 @@ in-turn call s = first-append (codeRows (matrixOf (s .matrix)) (s .primaries) (s
 pub judged-refused : (n : ℕ) (x : Served) → (n ≡ 0 → ⊥) → verdict.Refused (plain n) ≡ judged n x
 unfolding judged
 judged-refused n x h = rw (ne-eqb n 0 h)
-
-pub judged-served : (n : ℕ) (x : Served) → n ≡ 0 → verdict.Served x ≡ judged n x
-unfolding judged
-judged-served n x h = rw h

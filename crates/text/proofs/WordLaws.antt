@@ -1,17 +1,17 @@
 -- Where a word ends, the rest of a text begins: so words found one after the other are the words of the whole.
-use mathlib.Core.Path.{_≡_, refl, sym, ap, _∙_, subst}
+use mathlib.Core.Path.{_≡_, refl, sym, ap, _∙_}
 use mathlib.Core.Bool.{Bool, true, false, cond, _&&_}
 use mathlib.Core.List.{List, [], _∷_}
-use Prim.Native.Nat.{ℕ, zero, suc, _+_, _-_, _≤_, _<_}
+use Prim.Native.Nat.{ℕ, suc, _+_, _-_, _≤_, _<_}
 use native.Mathlib.Decide.{decLt}
 use native.Mathlib.Nat.{add-zero, sub-self}
 use native.Mathlib.Numerals.{add-one}
 use native.Mathlib.Omega.{arith}
 use borrow.Author.Tests.{eq-eqb, ne-eqb, eqb-true, lt-ltb, le-ltb}
-use lib.Dec.{eqb, ltb, eqb-refl}
+use lib.Dec.{eqb}
 use lib.ListN.{length, getD, take, drop, length-drop, drop-of-length-le, List·getD-eq-default}
 use lib.Seq.{drop-cons, drop-drop, getD-drop}
-use Rattle.text.specs.Words.{begun, split, wordOf, before, endOf, sameWord, indexIn, Spans}
+use Rattle.text.specs.Words.{begun, split, before, endOf, sameWord, indexIn, Spans}
 
 -- the bytes before the first gap, one byte at a time
 before-gap : (gap b : ℕ) (s : List ℕ) → b ≡ gap → before gap (b ∷ s) ≡ 0
