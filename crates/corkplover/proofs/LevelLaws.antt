@@ -1,6 +1,6 @@
 -- No level that the meter answers is a NaN, so its bits may be taken.
 use mathlib.Core.Path.{_≡_, refl, subst}
-use mathlib.Core.Bool.{Bool, not}
+use mathlib.Core.Bool.{not}
 use Prim.Native.Nat.{ℕ, _≤_}
 use native.Mathlib.Omega.{arith}
 use lib.Dec.{T}
@@ -21,7 +21,7 @@ use Rattle.pixel.specs.Ready.{Ready}
 use Rattle.pixel.specs.declared.Way.the-variants.{Reverse}
 use Rattle.picture.specs.Verdict.{past}
 use Rattle.picture.proofs.VerdictLaws.{past-both}
-use Rattle.corkplover.specs.Admit.{badOne, badPixel, admitted, admittedOne}
+use Rattle.corkplover.specs.Admit.{badOne, admitted, admittedOne}
 use Rattle.corkplover.specs.Answers.{readBy, reading, levelsBy, levelsAnswer}
 use Rattle.corkplover.specs.declared.spot.Reading.the-variants as meter
 use Rattle.corkplover.specs.declared.spot.LevelsAnswer.the-variants as levels

@@ -1,5 +1,5 @@
 -- The answers of the calls on a pixel and on a sample, and the number and the values that each case stands for.
-use mathlib.Core.Bool.{Bool, true, false, cond}
+use mathlib.Core.Bool.{cond}
 use mathlib.Core.List.{List, [], _∷_}
 use Prim.Native.Nat.{ℕ}
 use lib.Ieee.{Float}

@@ -1,14 +1,14 @@
 -- What the pixel's formulas do on settings that are not refused: samples stay within depth, lossless settings lose nothing, and a
 -- luma and chroma pixel has a source exactly if it comes back the same. Once for all depths, family by family.
 use mathlib.Core.Path.{_≡_, refl, sym, ap, _∙_, subst}
-use mathlib.Core.Bool.{Bool, true, false, cond, _&&_}
+use mathlib.Core.Bool.{Bool, true, false}
 use mathlib.Core.Logic.{⊎-elim}
-use Prim.Native.Nat.{ℕ, _+_, _^_, _≤_, _<_}
+use Prim.Native.Nat.{ℕ, _+_, _^_, _<_}
 use native.Mathlib.Omega.{arith}
 use borrow.Author.Tests.{eqb-true, eq-eqb, ne-eqb}
 use lib.Dec.{eqb}
 use Rattle.fraction.specs.Fraction.{Frac}
-use Rattle.sample.specs.Depth.{Depth, Inside, InsideRGB, InsideYCC}
+use Rattle.sample.specs.Depth.{InsideRGB, InsideYCC}
 use Rattle.sample.specs.declared.ChromaDepth.{ChromaDepth}
 use Rattle.sample.specs.declared.Depths.{Depths}
 use Rattle.sample.specs.declared.Pixel.{Pixel}

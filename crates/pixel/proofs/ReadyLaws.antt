@@ -1,14 +1,13 @@
 -- A setting that no row refuses is ready: rows 6 and 7 say so of its depths, and the table of matrices of its weights.
-use mathlib.Core.Path.{_≡_, refl, sym, ap, _∙_, subst}
-use mathlib.Core.Bool.{Bool, true, false, cond, not, _&&_, _||_}
+use mathlib.Core.Path.{_≡_, refl, sym, _∙_}
+use mathlib.Core.Bool.{Bool, true, false, cond, not, _||_}
 use mathlib.Core.List.{List, [], _∷_}
 use mathlib.Core.Logic.{_⊎_, inl, inr, ⊎-elim}
-use Prim.Native.Nat.{ℕ, zero, suc, _+_, _≤_, _<_}
+use Prim.Native.Nat.{ℕ, zero, suc, _≤_, _<_}
 use native.Mathlib.Omega.{arith}
 use borrow.Author.Tests.{eqb-true, not-false}
-use lib.Dec.{eqb}
 use lib.ListN.{getD}
-use Rattle.sample.specs.Depth.{areDepths, atMost, depthsOf}
+use Rattle.sample.specs.Depth.{areDepths, atMost}
 use Rattle.sample.proofs.DepthLaws.{AllDepths, AtMost, depths-of, at-most-of}
 use Rattle.sample.proofs.Picks.{both-true}
 use Rattle.refusal.specs.Table.{first}
@@ -26,7 +25,7 @@ use Rattle.setting.specs.declared.matrix.Family.the-variants.{Identity, Luma, Y
 use Rattle.setting.specs.declared.matrix.Matrix.{Matrix}
 use Rattle.setting.specs.declared.matrix.Matrix.the-variants as matrix
 use Rattle.setting.specs.declared.verdict.Served.{Served}
-use Rattle.pixel.specs.Ready.{DepthsOf8, Agreed, Ready}
+use Rattle.pixel.specs.Ready.{Agreed, Ready}
 
 -- what the table of matrices gives each family: weights that make up the whole, and a bit at least that is added
 abbrev Sound : Family → Type 0

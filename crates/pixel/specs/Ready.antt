@@ -1,7 +1,7 @@
 -- What a setting that is not refused has, as facts that the formulas' code leans on.
 use mathlib.Core.Path.{_≡_}
 use mathlib.Core.Logic.{_⊎_}
-use Prim.Native.Nat.{ℕ, _+_, _≤_}
+use Prim.Native.Nat.{_+_, _≤_}
 use Rattle.sample.specs.Depth.{Depth}
 use Rattle.sample.specs.declared.Depths.{Depths}
 use Rattle.levels.specs.Luma.{LumaServed}

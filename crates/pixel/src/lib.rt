@@ -1,7 +1,7 @@
 // One pixel, both ways: the family sorts the formulas, and what a luma matrix needs is prepared once.
 ghost use mathlib.Core.Path.{_≡_};
 ghost use Prim.Native.Nat.{_≤_};
-ghost use Rattle.sample.specs.Depth.{M, InsideRGB, InsideYCC};
+ghost use Rattle.sample.specs.Depth.{M, InsideYCC};
 ghost use Rattle.ycgco.specs.YCgCo.{Plain, Roomy};
 ghost use Rattle.levels.specs.Luma.{LumaServed, SamplesServed};
 ghost use Rattle.pixel.specs.Pixel.{swap, lossy, lossless, luma, lines, ycgco8, preparedFor, convert, InsideSource, callOf, tops};

@@ -1,6 +1,5 @@
 -- Demand 2 on a pixel: a call that no row refuses answers the samples that the formulas give.
 use mathlib.Core.Path.{_≡_}
-use Prim.Native.Nat.{_-_}
 use native.Mathlib.Omega.{arith}
 use Rattle.sample.specs.declared.Depths.{Depths}
 use Rattle.sample.specs.declared.Pixel.{Pixel}

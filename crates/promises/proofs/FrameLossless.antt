@@ -1,7 +1,7 @@
 -- Demand 3 on whole pictures, over settings that the image check does not refuse: frames are one-to-one, a frame comes back, and the image
 -- check says yes exactly if some RGB picture within depth converts to the given one. The pixels' own theorems, row by row.
 use mathlib.Core.Path.{_≡_, refl, sym, ap, _∙_, subst}
-use mathlib.Core.Bool.{Bool, true, false, not}
+use mathlib.Core.Bool.{Bool, true, false}
 use mathlib.Core.List.{[], _∷_}
 use Prim.Native.Nat.{ℕ, _<_}
 use native.Mathlib.Omega.{arith}

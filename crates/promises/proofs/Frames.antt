@@ -30,7 +30,7 @@ use Rattle.picture.proofs.Accepted.{Accepted, accepted-of, of-accepted, sides-s
 use Rattle.row.specs.Row.{sampleOf}
 use Rattle.frame.specs.Frame.{frameVerdict, answerBy, frameAnswer, convertedPlane, planeBy, lengthOf, outPlane}
 use Rattle.frame.specs.declared.FrameAnswer.the-variants.{Done, Refused}
-use Rattle.frame.proofs.FrameLaws.{plane-done, refused, plane-refused}
+use Rattle.frame.proofs.FrameLaws.{plane-done, plane-refused}
 use Rattle.image.specs.Image.{sourceless, firstSourceless, answerFound, imageAnswer}
 use Rattle.image.specs.Image as image
 

@@ -1,12 +1,9 @@
 -- Demand 3 on a pixel, over settings as they are handed in. A lossless setting is one that the source check does not refuse.
-use mathlib.Core.Path.{_≡_, refl, sym, ap, _∙_}
-use mathlib.Core.Bool.{Bool, true, false, cond}
-use Prim.Native.Nat.{ℕ}
-use native.Mathlib.Omega.{arith}
+use mathlib.Core.Path.{_≡_}
+use mathlib.Core.Bool.{true}
 use Rattle.sample.specs.Depth.{InsideRGB, InsideYCC}
 use Rattle.sample.specs.declared.Pixel.{Pixel}
-use Rattle.setting.specs.Agreement.{lossless}
-use Rattle.setting.specs.Refusals.{family, depths, served, refusalOf}
+use Rattle.setting.specs.Refusals.{depths, served, refusalOf}
 use Rattle.setting.specs.declared.Call.the-variants as call
 use Rattle.setting.specs.declared.Setting.{Setting}
 use Rattle.pixel.specs.Pixel.{convert}

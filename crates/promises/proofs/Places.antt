@@ -1,22 +1,18 @@
 -- A refusal of 10 on a pixel or a sample names the first bad sample, and any other refusal names no place and gives nothing else.
-use mathlib.Core.Path.{_≡_, refl, sym, ap, _∙_}
-use mathlib.Core.List.{List, [], _∷_}
+use mathlib.Core.Path.{_≡_}
+use mathlib.Core.List.{[], _∷_}
 use Prim.Native.Nat.{ℕ}
-use native.Mathlib.Omega.{arith}
 use borrow.Author.Tests.{ne-eqb}
 use Rattle.sample.specs.declared.Pixel.{Pixel}
-use Rattle.refusal.specs.Table.{plain, badAt, nowhere}
+use Rattle.refusal.specs.Table.{plain, badAt}
 use Rattle.refusal.specs.declared.Place.{Place}
-use Rattle.refusal.specs.declared.Refusal.{Refusal}
 use Rattle.plane.specs.First.{IsBadSample, IsFirstBad}
 use Rattle.plane.specs.declared.search.Found.{Found}
 use Rattle.plane.specs.declared.search.Found.the-variants as found
 use Rattle.plane.proofs.SearchTheorems.{at-in-planes-means, at-means}
-use Rattle.setting.specs.Refusals.{depths, verdictOf, refusalOf, served, judged}
+use Rattle.setting.specs.Refusals.{depths, verdictOf, refusalOf, judged}
 use Rattle.setting.specs.declared.Call.{Call}
-use Rattle.setting.specs.declared.Call.the-variants as call
 use Rattle.setting.specs.declared.Setting.{Setting}
-use Rattle.setting.specs.declared.verdict.Verdict.{Verdict}
 use Rattle.setting.specs.declared.verdict.Verdict.the-variants as verdict
 use Rattle.meter.specs.Level.{planeOf}
 use Rattle.meter.specs.declared.SampleKind.{SampleKind}

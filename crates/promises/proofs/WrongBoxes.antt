@@ -1,6 +1,6 @@
 -- Wrong boxes that no contract allows, each at a pixel or a code where it gives itself away.
-use mathlib.Core.Path.{_≡_, refl, sym, ap, _∙_}
-use mathlib.Core.Bool.{Bool, true, false}
+use mathlib.Core.Path.{_≡_, refl, ap}
+use mathlib.Core.Bool.{true}
 use mathlib.Core.List.{List, [], _∷_}
 use Prim.Native.Nat.{ℕ}
 use native.Mathlib.Omega.{arith}
@@ -24,7 +24,7 @@ use Rattle.pixel.specs.Pixel.{convert}
 use Rattle.pixel.specs.Source.{hasSource}
 use Rattle.corkplover.specs.declared.one_pixel.PixelAnswer.{PixelAnswer}
 use Rattle.corkplover.specs.declared.one_pixel.PixelAnswer.the-variants.{Converted, Refused}
-use Rattle.promises.proofs.Marked.{with, pixel, is, answers, table, marked}
+use Rattle.promises.proofs.Marked.{with, pixel, is, marked}
 
 -- labels at codes on both sides of each end: no constant answer, and no end one off
 abbrev labels : (ℕ → ℕ) → List ℕ → List ℕ

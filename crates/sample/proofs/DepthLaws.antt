@@ -1,9 +1,9 @@
 -- Laws of depths: the test and the fact, and the powers that follow from a depth.
-use mathlib.Core.Path.{_≡_, refl, ap, _∙_}
-use mathlib.Core.Bool.{Bool, true, false, _&&_, cond}
+use mathlib.Core.Path.{_≡_, ap, _∙_}
+use mathlib.Core.Bool.{Bool, true, false, cond}
 use Prim.Native.Nat.{ℕ, _+_, _*_, _-_, _^_, _≤_, _<_}
 use native.Mathlib.Omega.{arith}
-use borrow.Author.Tests.{le-leb, lt-leb, leb-true}
+use borrow.Author.Tests.{le-leb, leb-true}
 use lib.Pow.{pow-pos, pow-add, pow-mono}
 use Rattle.sample.specs.Depth.{isDepth, Depth, areDepths, atMost}
 use Rattle.sample.specs.declared.Depths.{Depths}

@@ -1,6 +1,6 @@
 -- A depth is a number from 8 to 16; with a luma matrix it is at most 12. These three numbers stand here alone.
 use mathlib.Core.Path.{_≡_}
-use mathlib.Core.Bool.{Bool, true, false, _&&_, cond}
+use mathlib.Core.Bool.{Bool, _&&_, cond}
 use Prim.Native.Nat.{ℕ, _-_, _^_, _≤_, _<_}
 use lib.Dec.{leb}
 use Rattle.sample.specs.declared.RgbDepth.{RgbDepth}

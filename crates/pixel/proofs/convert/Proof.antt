@@ -1,8 +1,6 @@
 -- `pixel::convert` meets its contract, family by family: what a setting that is not refused has is what each family asks.
-use mathlib.Core.Path.{_≡_, sym, ap, _∙_, subst}
+use mathlib.Core.Path.{_≡_, ap, _∙_, subst}
 use native.Mathlib.Omega.{arith}
-use Rattle.levels.specs.Luma.{SamplesServed}
-use Rattle.ycgco.specs.YCgCo.{Roomy}
 use Rattle.setting.specs.declared.matrix.Family.the-variants.{Luma}
 use Rattle.pixel.specs.Pixel.{preparedFor, preparedBy, convert}
 use Rattle.pixel.specs.Ready.{Agreed}

@@ -1,11 +1,7 @@
 -- `corkplover::admit::admit_one` meets its contract: a refusal by the setting stands, and else the samples are asked.
-use mathlib.Core.Path.{_≡_, sym, ap, _∙_}
-use Rattle.plane.specs.declared.search.Found.{Found}
-use Rattle.refusal.specs.declared.Refusal.{Refusal}
-use Rattle.setting.specs.Refusals.{depths, served, verdictOf}
+use mathlib.Core.Path.{sym, ap, _∙_}
+use Rattle.setting.specs.Refusals.{depths, verdictOf}
 use Rattle.setting.specs.declared.Call.the-variants as call
-use Rattle.setting.specs.declared.verdict.Verdict.{Verdict}
-use Rattle.setting.specs.declared.verdict.Verdict.the-variants as verdict
 use Rattle.picture.specs.Verdict.{past}
 use Rattle.picture.proofs.VerdictLaws.{three}
 use Rattle.corkplover.specs.Admit.{badOne, admittedOne}

@@ -1,5 +1,5 @@
 -- The exported forward frame is the frame's answer, packed, and the planes are the frame's own.
-use mathlib.Core.Path.{_≡_, ap, _∙_}
+use mathlib.Core.Path.{ap, _∙_}
 use lib.ListN.{length}
 use Rattle.pixel.specs.declared.Way.the-variants.{Forward}
 use Rattle.frame.specs.Frame.{sourceOf, outputOf, frameAnswer, outPlane}

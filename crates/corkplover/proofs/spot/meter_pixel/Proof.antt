@@ -1,8 +1,8 @@
 -- `corkplover::spot::meter_pixel` meets its contract: a setting that was let in has depths.
-use mathlib.Core.Path.{_≡_, sym, ap, _∙_}
+use mathlib.Core.Path.{sym, ap, _∙_}
 use Rattle.setting.specs.declared.Call.the-variants as call
 use Rattle.pixel.specs.declared.Way.the-variants.{Reverse}
-use Rattle.corkplover.specs.Answers.{levelsBy, levelsAnswer}
+use Rattle.corkplover.specs.Answers.{levelsAnswer}
 use Rattle.corkplover.specs.declared.spot.LevelsAnswer.the-variants as answer
 use Rattle.corkplover.proofs.AdmitLaws.{let-in}
 use borrow.Author.Needs.{needs}

@@ -8,10 +8,9 @@ use Rattle.setting.specs.declared.verdict.Verdict.the-variants as verdict
 use Rattle.meter.specs.declared.SampleKind.{SampleKind}
 use Prim.Native.Nat.{ℕ}
 use Rattle.pixel.specs.Ready.{Ready}
-use Rattle.picture.specs.Verdict.{past}
 use Rattle.picture.proofs.VerdictLaws.{past-both}
 use Rattle.corkplover.specs.Admit.{badOne, admittedOne}
-use Rattle.corkplover.specs.Answers.{readBy, reading}
+use Rattle.corkplover.specs.Answers.{reading}
 use Rattle.corkplover.specs.declared.spot.Reading.the-variants as answer
 use Rattle.corkplover.proofs.AdmitLaws.{verdict-ready}
 use borrow.Author.Needs.{needs}
