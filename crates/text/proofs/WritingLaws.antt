@@ -1,5 +1,5 @@
 -- Writing one text and then another is writing the two as one, however little room there is.
-use mathlib.Core.Path.{_≡_, refl, ap, _∙_}
+use mathlib.Core.Path.{_≡_, refl, sym, ap, _∙_, subst}
 use mathlib.Core.List.{List, [], _∷_, _++_}
 use Prim.Native.Nat.{ℕ, zero, suc, _+_, _≤_, _<_}
 use native.Mathlib.Numerals.{add-one}
@@ -46,3 +46,14 @@ wrote-byte (x ∷ o) (suc at) b h = ap (behind x) (wrote-byte o at b (omega arit
 
 pub byte : (o : List ℕ) (at b : ℕ) → at < length o → Wrote o at (b ∷ []) (set o at b) (at + 1)
 byte o at b h = record { is = rw add-one (wrote-byte o at b h) }
+
+-- a position inside the buffer stays inside it
+next-inside : (o : List ℕ) (at : ℕ) (t : List ℕ) → at ≤ length o → wrote o at t .next ≤ length o
+unfolding wrote
+next-inside [] at t h = h
+next-inside (x ∷ o) zero [] h = omega arith
+next-inside (x ∷ o) zero (b ∷ t) h = let k = next-inside o zero t (omega arith) in omega arith
+next-inside (x ∷ o) (suc at) t h = let k = next-inside o at t (omega arith) in omega arith
+
+pub inside : {o t n : List ℕ} {at p : ℕ} → Wrote o at t n p → at ≤ length o → p ≤ length o
+inside {o} {t} {n} {at} w h = subst (λ (x : Page). x .next ≤ length o) (sym (w .is)) (next-inside o at t h)
