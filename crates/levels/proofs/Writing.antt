@@ -9,8 +9,8 @@ use Rattle.whole.specs.Whole.{round, clip}
 use Rattle.whole.proofs.Difference.{parts, parts-of}
 use Rattle.whole.proofs.Closers.{same}
 use Rattle.fraction.specs.Fraction.{Frac, _⊕_, _⊗_, whole, Round}
-use Rattle.fraction.proofs.Same.{ring, by-parts, ≈-refl}
-use Rattle.fraction.proofs.Value.{Value, ⊕-value, ⊗-value, lift, rename, Round-value}
+use Rattle.fraction.proofs.Same.{ring, by-parts}
+use Rattle.fraction.proofs.Value.{Value, ⊕-value, ⊗-value, lift, rename, Round-value, itself}
 use Rattle.sample.specs.declared.ChromaDepth.{ChromaDepth}
 use Rattle.sample.specs.declared.Pixel.{Pixel}
 use Rattle.sample.specs.Depth.{M, H}
@@ -24,7 +24,7 @@ use Rattle.levels.specs.declared.prepared.Target.{Target}
 
 -- a sample's level, on its own scale, and as parts of a denominator that two scales share
 level-value : (s : Scale) (v : ℕ) → 0 < s .times → Value (level s v) (pos v -ℤ pos (s .plus)) (s .times)
-level-value s v h = record { proper = h; is = ≈-refl _ }
+level-value s v = itself (level s v)
 
 pub rgb-value : (s : Scale) (v : ℕ) → 0 < s .times → Value (level s v) (read (source 1 (s .plus)) v) (s .times)
 rgb-value s v h = rename refl (one-mul _) (lift 1 (level-value s v h))

@@ -1,6 +1,6 @@
 -- What the answer of a search means, and that it depends on the picture's samples alone.
 use mathlib.Core.Path.{_≡_, refl, sym, _∙_, subst}
-use mathlib.Core.Bool.{Bool, true, false}
+use mathlib.Core.Bool.{Bool, true, false, true≢false}
 use mathlib.Core.List.{List, [], _∷_}
 use mathlib.Core.Logic.{_↔_, ⊎-elim, inl, inr}
 use Prim.Native.Nat.{ℕ, zero, suc, _≤_, _<_}
@@ -20,7 +20,7 @@ use Rattle.plane.proofs.Searches.{first-here, none-of, first-same}
 -- ---- any search
 
 something : (place : Place) → At place ≡ Nothing → ⊥
-something place e = let z : _≡_ {A = ℕ} 0 1 = cc in omega arith
+something place e = true≢false cc
 
 -- where a search found nothing, nothing is at any place searched
 none-step : (f : ℕ → Found) (n : ℕ) (x : Found) → (x ≡ Nothing → (i : ℕ) → i < n → f i ≡ Nothing)

@@ -8,7 +8,7 @@ use Rattle.setting.specs.Refusals.{depths, served, judged, refusalOf}
 use Rattle.setting.specs.declared.Setting.{Setting}
 use Rattle.pixel.specs.Pixel.{convert, callOf, InsideSource}
 use Rattle.pixel.specs.declared.Way.{Way}
-use Rattle.picture.proofs.Accepted.{none-beyond}
+use Rattle.picture.proofs.Accepted.{inside-exactly}
 use Rattle.corkplover.specs.Admit.{pixelPicture, badPixel, admitted}
 use Rattle.corkplover.specs.Answers.{pixelAnswer}
 use Rattle.corkplover.specs.declared.one_pixel.PixelAnswer.the-variants.{Converted}
@@ -16,7 +16,7 @@ use Rattle.corkplover.specs.declared.one_pixel.PixelAnswer.the-variants.{Conver
 -- samples within depth are not bad
 pub no-bad : (w : Way) (d : Depths) (p : Pixel) → InsideSource w d p → badPixel w d p ≡ found.Nothing
 no-bad w d p h =
-    none-beyond w d (pixelPicture p)
+    inside-exactly w d (pixelPicture p) .1
     (λ j i a b.
     let ej : j ≡ 0 = omega arith in
     let ei : i ≡ 0 = omega arith in

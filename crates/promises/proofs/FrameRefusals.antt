@@ -1,7 +1,7 @@
 -- Demand 1 on whole pictures: each refusal number is given exactly if its row of the whole table applies and no earlier one does, a 10
 -- names the first bad sample of the picture, and no other refusal names a place.
 use mathlib.Core.Path.{_≡_, refl, sym, ap, _∙_, subst}
-use mathlib.Core.Bool.{Bool, true, false, cond}
+use mathlib.Core.Bool.{Bool, true, false, true≢false, cond}
 use mathlib.Core.List.{List, [], _∷_, _++_}
 use Prim.Native.Nat.{ℕ, zero, suc, _<_}
 use native.Mathlib.Omega.{arith}
@@ -36,6 +36,7 @@ use Rattle.image.specs.Image as image
 use Rattle.image.specs.declared.ImageAnswer.the-variants as ImageAnswer
 use Rattle.promises.specs.Tables.{isFound, pictureTable, frameTable, imageTable}
 use Rattle.promises.proofs.Refusals.{number, past-number, Exactly, exactly-first, whole-numbered}
+use Rattle.promises.proofs.Frames.{frame-refused}
 
 -- the rows before row 10
 module _ (c : Call) (w : Way) (s : Setting) (a : Picture) (others : List Side) where
@@ -114,7 +115,7 @@ module _ (w : Way) (s : Setting) (a : Picture) (r : Refusal) where
         ten = λ h. at-in-planes-means (planes a) (a .stride) (a .width) (a .height) _ place .0 b;
         other = λ h. absurd (h refl);
       })
-  by-place x found.Nothing b e = absurd (let z : _≡_ {A = ℕ} 0 1 = cc in omega arith)
+  by-place x found.Nothing b e = absurd (true≢false cc)
 
   by-number : (n : ℕ) → (n ≡ 10 → ⊥) → past (judged n (served s)) (beyondDepth w (depths s) a) ≡ verdict.Refused r → Placed w s a r
   unfolding judged
@@ -130,17 +131,13 @@ module _ (w : Way) (s : Setting) (a : Picture) (r : Refusal) where
       by-number (numberBefore10 c s a others)
       (λ q. not-given 10 (rows c w s a others) (omega arith) (refl, (refl, (refl, (refl, (refl, (refl, (refl, (refl, (refl, (refl, tt)))))))))) (sym (number-before c w s a others) ∙ q)) e
 
-frame-refused : (v : Verdict) (r : Refusal) → frame.answerBy v ≡ FrameAnswer.Refused r → v ≡ verdict.Refused r
-frame-refused (verdict.Served x) r e = absurd (let z : _≡_ {A = ℕ} 0 1 = cc in omega arith)
-frame-refused (verdict.Refused q) r e = let f : q ≡ r = cc in ap verdict.Refused f
-
 pub frame-placed : (w : Way) (s : Setting) (a : Picture) (b : Side) (r : Refusal) → frameAnswer w s a b ≡ FrameAnswer.Refused r → Placed w s a r
 unfolding frameAnswer
 frame-placed w s a b r e = picture-placed w s a r (callOf w) (b ∷ []) (frame-refused (frameVerdict w s a b) r e)
 
 found-refused : (f : Found) (r : Refusal) → answerFound f ≡ ImageAnswer.Refused r → ⊥
-found-refused (found.At place) r e = let z : _≡_ {A = ℕ} 0 1 = cc in omega arith
-found-refused found.Nothing r e = let z : _≡_ {A = ℕ} 0 1 = cc in omega arith
+found-refused (found.At place) r e = true≢false cc
+found-refused found.Nothing r e = true≢false cc
 
 image-refused : (v : Verdict) (a : Picture) (r : Refusal) → image.answerBy v a ≡ ImageAnswer.Refused r → v ≡ verdict.Refused r
 image-refused (verdict.Served x) a r e = absurd (found-refused (firstSourceless x a) r e)

@@ -62,6 +62,12 @@ chromaChecked n = cond (isDepth n) (chroma.Depth (chromaDepth n)) chroma.Outside
 unfoldable pub areDepths : ℕ → ℕ → ℕ → Bool
 areDepths r y c = isDepth r && (isDepth y && isDepth c)
 
+-- the same as a fact
+pub record ThreeDepths (d : Depths) : Type 0 where
+  pub rgb : Depth (d .rgb .0)
+  pub luma : Depth (d .luma .0)
+  pub chroma : Depth (d .chroma .0)
+
 unfoldable pub depthsChecked : ℕ → ℕ → ℕ → DepthsChecked
 depthsChecked r y c = cond (areDepths r y c) (depths.Depths (depthsOf r y c)) depths.Outside
 

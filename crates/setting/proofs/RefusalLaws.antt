@@ -4,7 +4,7 @@ use mathlib.Core.Bool.{Bool, true, false}
 use Prim.Native.Nat.{ℕ}
 use borrow.Author.Tests.{ne-eqb}
 use Rattle.refusal.specs.Table.{first, orElse, plain}
-use Rattle.refusal.proofs.TableLaws.{first-append}
+use Rattle.refusal.proofs.TableLaws.{first-append, neither}
 use Rattle.setting.specs.Label.{isReserved, primariesLabel, transferLabel}
 use Rattle.setting.specs.Matrix.{matrixOf}
 use Rattle.setting.specs.Refusals.{standing, family, codeRows, depthRows, refusalOf, judged}
@@ -48,6 +48,11 @@ pub in-turn : (call : Call) (s : Setting)
     → refusalOf call s ≡ orElse (first (codeRows (matrixOf (s .matrix)) (s .primaries) (s .transfer))) (first (depthRows call (family s) s))
 unfolding refusalOf
 in-turn call s = first-append (codeRows (matrixOf (s .matrix)) (s .primaries) (s .transfer)) (depthRows call (family s) s) (refl, (refl, (refl, (refl, (refl, tt)))))
+
+-- where no row refuses, none of either group does
+pub groups : (call : Call) (s : Setting) → refusalOf call s ≡ 0
+    → (first (codeRows (matrixOf (s .matrix)) (s .primaries) (s .transfer)) ≡ 0) × (first (depthRows call (family s) s) ≡ 0)
+groups call s e = neither _ _ (sym (in-turn call s) ∙ e)
 
 pub judged-refused : (n : ℕ) (x : Served) → (n ≡ 0 → ⊥) → verdict.Refused (plain n) ≡ judged n x
 unfolding judged

@@ -1,6 +1,6 @@
 -- A number is read digit by digit from the front: what was read stands for the digits that were passed.
 use mathlib.Core.Path.{_≡_, refl}
-use mathlib.Core.Bool.{Bool, true, false, cond, _&&_}
+use mathlib.Core.Bool.{Bool, true, false, true≢false, cond, _&&_}
 use mathlib.Core.List.{List, [], _∷_}
 use Prim.Native.Nat.{ℕ, _+_, _-_, _*_, _≤_, _<_}
 use native.Mathlib.Decide.{decLe}
@@ -79,6 +79,6 @@ number-most w most v e = go (ltb 0 (length w)) (allDigits w) (decLe (valueOf 0 w
     go : (t u : Bool) → Dec (valueOf 0 w ≤ most)
         → cond (t && (u && leb (valueOf 0 w) most)) (number.Value (valueOf 0 w)) number.Nothing ≡ number.Value v → v ≤ most
     go true true (yes h) e = let f : valueOf 0 w ≡ v = (let g = rw (le-leb _ _ h) at e in cc) in omega arith
-    go true true (no h) e = absurd (let f = rw (lt-leb (valueOf 0 w) most (omega arith)) at e in let z : _≡_ {A = ℕ} 0 1 = cc in omega arith)
-    go true false d e = absurd (let z : _≡_ {A = ℕ} 0 1 = cc in omega arith)
-    go false u d e = absurd (let z : _≡_ {A = ℕ} 0 1 = cc in omega arith)
+    go true true (no h) e = absurd (let f = rw (lt-leb (valueOf 0 w) most (omega arith)) at e in true≢false cc)
+    go true false d e = absurd (true≢false cc)
+    go false u d e = absurd (true≢false cc)

@@ -2,9 +2,9 @@
 use mathlib.Core.Path.{sym, ap, _∙_}
 use Rattle.setting.specs.Refusals.{depths, verdictOf}
 use Rattle.picture.specs.Verdict.{past}
-use Rattle.picture.proofs.VerdictLaws.{three}
+use Rattle.picture.proofs.VerdictLaws.{verdict-ready}
 use Rattle.corkplover.specs.Admit.{badPixel, admitted}
-use Rattle.corkplover.proofs.AdmitLaws.{refused-stays, verdict-ready, verdict-is}
+use Rattle.corkplover.proofs.AdmitLaws.{refused-stays, verdict-is}
 use borrow.Author.Needs.{needs}
 use Rattle.corkplover.proofs.admit.admit.Statement.{statement}
 use Rattle.corkplover.proofs.admit.admit.Tie as tie
@@ -21,7 +21,7 @@ enum-known-v c = search needs
 bad-pixel-requires : tie.Need-bad-pixel-requires
 bad-pixel-requires c κs =
     let a = c .before .before .before .before .before .args in
-    three (verdict-ready (a .call) (a .s) _ (sym (c .before .before .before .before .judge .ensures) ∙ c .before .before .v .given .1))
+    verdict-ready (a .call) (a .s) _ (sym (c .before .before .before .before .judge .ensures) ∙ c .before .before .v .given .1) .three
 
 past-requires : tie.Need-past-requires
 past-requires c κs = search needs

@@ -22,7 +22,7 @@ levels-of-requires : tie.Need-levels-of-requires
 levels-of-requires c κs =
     let a = c .before .before .before .before .before .args in
     let k = let-in call.Meter Reverse (a .s) (a .p) _ (sym (c .before .before .before .before .admit .ensures) ∙ c .before .before .served .given .1) .is-ready in
-    (k .luma, k .chroma)
+    (k .three .luma, k .three .chroma)
 
 returns : tie.Need-returns
 unfolding levelsAnswer
