@@ -1,7 +1,7 @@
 // Cases as lines of text, answered as the box answers them. docs/src/oracle says what a line means. What is written to standard output
 // is held to stored answers; no contract can speak of it, so the contracts here say where reading goes on.
 ghost use mathlib.Core.Path.{_≡_};
-ghost use Prim.Native.Nat.{_≤_, _<_};
+ghost use Prim.Native.Nat.{_<_};
 ghost use lib.ListN.{length};
 
 mod pixels;

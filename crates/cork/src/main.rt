@@ -3,6 +3,8 @@ mod output;
 mod saying;
 mod wording;
 
+ghost use Prim.Native.Nat.{_≤_};
+ghost use lib.ListN.{length};
 use desk::form;
 use desk::form::Asked;
 use setting::Call;
@@ -45,20 +47,29 @@ fn on_meter(words: &[u8]) {
 }
 
 fn on_words(words: &[u8]) {
-    let verb = reading::place_at(words, GAP, 0, b"forward reverse source meter label");
+    let verb = reading::place_at(
+        words,
+        GAP,
+        0,
+        b"forward reverse source meter label help --help -h",
+    );
     match verb {
         0 => asked(words, true, form::pixel_form(Call::Forward, words, GAP)),
         1 => asked(words, false, form::pixel_form(Call::Reverse, words, GAP)),
         2 => asked(words, true, form::pixel_form(Call::ImageCheck, words, GAP)),
         3 => on_meter(words),
         4 => on_label(words),
+        5..=7 => wording::usage(),
         _ => saying::fault(words, 0, form::VERB),
     }
 }
 
 // One word of the command line, at the end of those before it. For a word that is longer than `one` `os::arg` answers 0 and leaves its
 // beginning there: that goes on with two dots, as no word does that belongs anywhere.
-fn word(i: usize, words: &mut [u8], at: usize) -> usize {
+fn word(i: usize, words: &mut [u8], at: usize) -> usize
+    requires { ⌜ at ≤ length (now words) ⌝ }
+    ensures { λ r. ⌜ r ≤ length (now (words .entry)) ⌝ }
+{
     let mut one = [0u8; 64];
     let n = os::arg(i, &mut one);
     if n == 0 && one[0] != 0 {
@@ -70,7 +81,9 @@ fn word(i: usize, words: &mut [u8], at: usize) -> usize {
 }
 
 // All words, or the first 20: no request has so many.
-fn all_words(count: usize, words: &mut [u8]) -> usize {
+fn all_words(count: usize, words: &mut [u8]) -> usize
+    ensures { λ r. ⌜ r ≤ length (now (words .entry)) ⌝ }
+{
     let mut at = 0;
     let mut i: usize = 1;
     while i < count {
@@ -91,7 +104,5 @@ fn main() {
     }
     let mut words = io::buffer();
     let n = all_words(count, &mut words);
-    if n < 4096 {
-        on_words(&words[..n]);
-    }
+    on_words(&words[..n]);
 }

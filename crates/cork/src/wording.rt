@@ -10,7 +10,8 @@ pub fn usage() {
     );
     say(b"  cork meter SETTING Y CB CR      the three levels (luma matrices)\n");
     say(b"  cork meter SETTING y|cb|cr SAMPLE\n");
-    say(b"  cork label primaries|transfer|matrix CODE\n\n");
+    say(b"  cork label primaries|transfer|matrix CODE\n");
+    say(b"  cork help                       these lines, as without any word\n\n");
     say(b"SETTING is eight words: primaries, transfer and matrix codes (0 to 255), RGB depth,\n");
     say(
         b"Y depth and C depth in bits, then full or narrow for RGB and for YCbCr. For example:\n\n",
@@ -43,7 +44,7 @@ pub fn expected(n: u8) {
     }
 }
 
-// What a refusal means, and what to do about it.
+// What a refusal means, and what to do about it. The last is number 11.
 pub fn meaning(n: u8) {
     match n {
         1 => say(
@@ -60,7 +61,6 @@ pub fn meaning(n: u8) {
         ),
         9 => say(b"a plane is too short for its size and stride"),
         10 => say(b"a sample is too large for its depth"),
-        11 => say(b"the meter needs a luma matrix, and the source check a lossless setting"),
-        _ => say(b"refused"),
+        _ => say(b"the meter needs a luma matrix, and the source check a lossless setting"),
     }
 }

@@ -1,5 +1,6 @@
 -- What a call that was let in has: a setting that is ready, and samples within depth.
 use mathlib.Core.Path.{_≡_, subst}
+use Prim.Native.Nat.{ℕ}
 use native.Mathlib.Omega.{arith}
 use Rattle.sample.specs.declared.Depths.{Depths}
 use Rattle.sample.specs.declared.Pixel.{Pixel}
@@ -8,23 +9,19 @@ use Rattle.plane.specs.declared.search.Found.{Found}
 use Rattle.plane.specs.declared.search.Found.the-variants as found
 use Rattle.setting.specs.Refusals.{depths, served, verdictOf, refusalOf}
 use Rattle.setting.specs.declared.Call.{Call}
+use Rattle.setting.specs.declared.Call.the-variants as call
 use Rattle.setting.specs.declared.Setting.{Setting}
 use Rattle.setting.specs.declared.verdict.Served.{Served}
 use Rattle.setting.specs.declared.verdict.Verdict.{Verdict}
 use Rattle.setting.specs.declared.verdict.Verdict.the-variants as verdict
+use Rattle.meter.specs.declared.SampleKind.{SampleKind}
 use Rattle.pixel.specs.Pixel.{InsideSource}
 use Rattle.pixel.specs.Ready.{Ready}
 use Rattle.pixel.specs.declared.Way.{Way}
-use Rattle.pixel.proofs.ReadyLaws.{ready}
 use Rattle.picture.specs.Verdict.{past}
-use Rattle.picture.proofs.VerdictLaws.{told-served, past-both}
-use Rattle.picture.proofs.Accepted.{inside-by}
-use Rattle.corkplover.specs.Admit.{pixelPicture, badPixel, admitted}
-
-pub verdict-ready : (call : Call) (s : Setting) (x : Served) → verdictOf call s ≡ verdict.Served x → Ready x
-verdict-ready call s x e =
-    let t = told-served (refusalOf call s) (served s) x e in
-    subst Ready (t .1) (ready call s (t .0))
+use Rattle.picture.proofs.VerdictLaws.{told-served, verdict-ready, past-both}
+use Rattle.picture.proofs.Accepted.{inside-exactly}
+use Rattle.corkplover.specs.Admit.{pixelPicture, badPixel, badOne, admitted, admittedOne}
 
 pub verdict-is : (call : Call) (s : Setting) (x : Served) → verdictOf call s ≡ verdict.Served x → served s ≡ x
 verdict-is call s x e = told-served (refusalOf call s) (served s) x e .1
@@ -35,7 +32,7 @@ refused-stays v f r e = rw e
 
 -- no bad sample: each lies within its plane's depth
 pub none-bad : (w : Way) (d : Depths) (p : Pixel) → badPixel w d p ≡ found.Nothing → InsideSource w d p
-none-bad w d p e = inside-by w d (pixelPicture p) e 0 0 (omega arith) (omega arith)
+none-bad w d p e = inside-exactly w d (pixelPicture p) .0 e 0 0 (omega arith) (omega arith)
 
 -- a call on a pixel that was let in
 pub record LetIn (w : Way) (p : Pixel) (x : Served) : Type 0 where
@@ -50,3 +47,8 @@ let-in call w s p x e =
       is-ready = verdict-ready call s x (t .0);
       inside = subst (λ y. InsideSource w (y .depths) p) (verdict-is call s x (t .0)) (none-bad w (depths s) p (t .1));
     }
+
+-- a call on one sample that was let in
+pub one-ready : (k : SampleKind) (s : Setting) (v : ℕ) (x : Served) → admittedOne k s v ≡ verdict.Served x → Ready x
+unfolding admittedOne
+one-ready k s v x e = verdict-ready call.Meter s x (past-both (verdictOf call.Meter s) (badOne k (depths s) v) x e .0)

@@ -1,6 +1,6 @@
 -- Answers as one number, for callers in other languages. Bits 0 to 7 are 0 or the refusal's number; a 10 has its plane from bit 8, its
 -- row from bit 16 and its column from bit 32; an accepted pixel has its samples from bits 16, 32 and 48. All other bits are 0.
-use mathlib.Core.Bool.{Bool, true, false}
+use mathlib.Core.Bool.{Bool, false}
 use Prim.Native.Nat.{ℕ, _+_, _*_, _/_, _%_}
 use lib.IntN.{pos}
 use lib.Ieee.{Float, fin}

@@ -1,6 +1,6 @@
 // Who is let in: rows 1 to 7 and 11 by the setting, then 10 by the samples that the call was handed.
 ghost use mathlib.Core.Path.{_≡_};
-ghost use Rattle.pixel.specs.Ready.{ThreeDepths};
+ghost use Rattle.sample.specs.Depth.{ThreeDepths};
 ghost use Rattle.corkplover.specs.Admit.{badPixel, admitted, badOne, admittedOne, topOf};
 use meter::SampleKind;
 use pixel::Way;

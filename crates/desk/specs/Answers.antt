@@ -1,14 +1,14 @@
 -- The box's answer to a request: what its entry point answers, with a level as its bits.
-use mathlib.Core.Bool.{true, false, not}
+use mathlib.Core.Bool.{true, false}
 use Prim.Native.Nat.{ℕ}
-use lib.Dec.{T}
-use lib.Ieee.{Float, binary32, isNan, toBits}
+use lib.Ieee.{binary32, toBits}
 use Rattle.sample.specs.declared.Pixel.{Pixel}
 use Rattle.setting.specs.Label.{primariesLabel, transferLabel, matrixLabel}
 use Rattle.setting.specs.declared.Call.{Call}
 use Rattle.setting.specs.declared.Call.the-variants as call
 use Rattle.setting.specs.declared.Setting.{Setting}
 use Rattle.setting.specs.declared.label.Label.{Label}
+use Rattle.meter.specs.Level.{IsNumber, AreNumbers}
 use Rattle.pixel.specs.declared.Way.the-variants.{Forward, Reverse}
 use Rattle.corkplover.specs.Answers.{pixelAnswer, sourceAnswer, reading, levelsAnswer}
 use Rattle.corkplover.specs.declared.one_pixel.PixelAnswer.{PixelAnswer}
@@ -43,16 +43,13 @@ abbrev pub ofLevels : LevelsAnswer → Answer
 ofLevels (levels.Levels l) = Levels (toBits binary32 (l .y)) (toBits binary32 (l .cb)) (toBits binary32 (l .cr))
 ofLevels (levels.Refused r) = Refused r
 
--- a float has bits of its own unless it is no number
-abbrev pub IsNumber : Float → Type 0
-IsNumber x = T (not (isNan x))
-
+-- an answer whose levels have bits
 abbrev pub NumberIn : Reading → Type 0
 NumberIn (meter.Level x) = IsNumber x
 NumberIn (meter.Refused r) = Unit {0}
 
 abbrev pub NumbersIn : LevelsAnswer → Type 0
-NumbersIn (levels.Levels l) = IsNumber (l .y) × (IsNumber (l .cb) × IsNumber (l .cr))
+NumbersIn (levels.Levels l) = AreNumbers l
 NumbersIn (levels.Refused r) = Unit {0}
 
 abbrev pub askPixel : Call → Setting → Pixel → Answer

@@ -1,5 +1,5 @@
 -- What the words of a request come to. A word that isn't what was expected is at fault, and the first such word is named.
-use mathlib.Core.Bool.{Bool, true, false, cond}
+use mathlib.Core.Bool.{false, cond}
 use mathlib.Core.List.{List, [], _∷_}
 use Prim.Native.Nat.{ℕ, _+_, _%_, min}
 use lib.Dec.{eqb, ltb}
@@ -97,10 +97,7 @@ expectedSample ImageCheck n = n + 3
 abbrev pub expectedAt : Call → ℕ → ℕ
 expectedAt call n = cond (ltb n 9) n (cond (ltb 11 n) 18 (expectedSample call n))
 
--- the calls, the kinds of sample and the kinds of code by their places in a list of names; every place after the list is the last
-abbrev pub callOf : ℕ → Call
-callOf place = getD (Forward ∷ Reverse ∷ ImageCheck ∷ []) place Meter
-
+-- the kinds of sample and the kinds of code by their places in a list of names; every place after the list is the last
 abbrev pub kindOf : ℕ → SampleKind
 kindOf place = getD (Y ∷ Cb ∷ []) place Cr
 

@@ -1,7 +1,7 @@
 // Reading the words of a request. Word 0 says what is asked, words 1 to 8 are the setting, and the samples follow it.
 ghost use mathlib.Core.Path.{_≡_};
 ghost use Prim.Native.Nat.{_<_, min};
-ghost use Rattle.desk.specs.Form.{codeAt, rangeAt, sampleAt, endAt, settingAt, pixelAt, expectedAt, callOf, kindOf, codeKindOf, pixelForm, sampleForm, labelForm};
+ghost use Rattle.desk.specs.Form.{codeAt, rangeAt, sampleAt, endAt, settingAt, pixelAt, expectedAt, kindOf, codeKindOf, pixelForm, sampleForm, labelForm};
 use crate::CodeKind;
 use crate::Request;
 use meter::SampleKind;
@@ -184,18 +184,7 @@ fn expected_at(call: Call, n: u8) -> u8
     }
 }
 
-// The calls, the kinds of sample and the kinds of code, by their place among names that are listed in this order.
-pub fn call_of(place: usize) -> Call
-    ensures { λ r. ⌜ r ≡ callOf place ⌝ }
-{
-    match place {
-        0 => Call::Forward,
-        1 => Call::Reverse,
-        2 => Call::ImageCheck,
-        _ => Call::Meter,
-    }
-}
-
+// The kinds of sample and the kinds of code, by their place among names that are listed in this order.
 pub fn kind_of(place: usize) -> SampleKind
     ensures { λ r. ⌜ r ≡ kindOf place ⌝ }
 {

@@ -8,11 +8,14 @@ use lib.IntN.{ℤ, pos, natAbs, _+ℤ_, _-ℤ_, _*ℤ_}
 use Rattle.whole.specs.Whole.{round}
 use Rattle.whole.proofs.Difference.{parts, parts-of, parts-scale, parts-times}
 use Rattle.fraction.specs.Fraction.{Frac, _⊕_, _⊖_, _⊗_, _÷_, part, _≈_, Round}
-use Rattle.fraction.proofs.Same.{ring, Round-≈, to-parts, by-parts, ≈-sym, ≈-trans}
+use Rattle.fraction.proofs.Same.{ring, Round-≈, to-parts, by-parts, ≈-refl, ≈-sym, ≈-trans}
 
 pub record Value (x : Frac) (z : ℤ) (D : ℕ) : Type 0 where
   pub proper : 0 < x .den
   pub is : x ≈ part z D
+
+pub itself : (x : Frac) → 0 < x .den → Value x (x .num) (x .den)
+itself x h = record { proper = h; is = ≈-refl x }
 
 sum-numbers : (a b d a' b' d' z z' w w' D : ℕ) → a * D + z' * d ≡ z * d + b * D → a' * D + w' * d' ≡ w * d' + b' * D
     → (a * d' + a' * d) * D + (z' + w') * (d * d') ≡ (z + w) * (d * d') + (b * d' + b' * d) * D

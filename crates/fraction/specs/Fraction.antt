@@ -1,6 +1,6 @@
 -- Exact fractions: a whole number over a natural number that is not 0. Nothing is reduced and nothing is rounded, but by Round.
 use mathlib.Core.Path.{_≡_}
-use Prim.Native.Nat.{ℕ, _*_, _<_}
+use Prim.Native.Nat.{ℕ, _*_}
 use lib.IntN.{ℤ, pos, natAbs, _+ℤ_, _-ℤ_, _*ℤ_}
 use Rattle.whole.specs.Whole.{round}
 

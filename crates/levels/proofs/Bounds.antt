@@ -2,15 +2,15 @@
 -- 5/4 of the square of the whole, whatever KR and KB are.
 use mathlib.Core.Path.{_≡_, ap}
 use mathlib.Core.Bool.{Bool, true, false}
-use Prim.Native.Nat.{ℕ, zero, suc, _+_, _*_, _-_, _^_, _≤_, _<_}
+use Prim.Native.Nat.{ℕ, zero, suc, _+_, _*_, _^_, _≤_, _<_}
 use native.Mathlib.Nat.{mul-pos, mul-le-mul, mul-le-mul-left, le-refl}
 use native.Mathlib.Omega.{arith}
-use Rattle.sample.specs.Depth.{mostLumaMatrixDepth}
+use Rattle.sample.specs.Depth.{mostLumaMatrixDepth, Inside}
 use Rattle.sample.specs.declared.ChromaDepth.{ChromaDepth}
 use Rattle.sample.specs.declared.Pixel.{Pixel}
 use Rattle.sample.proofs.DepthLaws.{Powers, powers}
 use Rattle.levels.specs.Paper.{allParts, weights, lightScale, chromaScale}
-use Rattle.levels.specs.Luma.{Shares, LumaMatrixDepth, SamplesServed, mostSample}
+use Rattle.levels.specs.Luma.{Shares, LumaMatrixDepth, mostSample, SamplesServed}
 use Rattle.levels.specs.Rows.{rowY, rowPB, rowPR, rowR, rowG, rowB}
 use Rattle.levels.specs.Lines.{targetOf, sourcesOfRgb, sourcesOfYcc, spread, lineOf}
 use Rattle.levels.specs.Room.{total, mostTotal, ScaleServed, SpreadServed, LineServed, Room}
@@ -20,22 +20,16 @@ use Rattle.levels.specs.declared.rows.Row.{Row}
 use Rattle.levels.specs.declared.prepared.Sources.{Sources}
 use Rattle.levels.specs.declared.prepared.Target.{Target}
 
--- Weights given by KR and KB are served.
-pub weights-served : (kr kb : ℕ) → kr + kb < allParts → Shares (weights kr kb)
-weights-served kr kb h = omega arith
-
 -- the powers of two of a depth that is served
 depth-powers : {d : ℕ} → LumaMatrixDepth d → Powers d mostLumaMatrixDepth
 depth-powers {d} h = powers d mostLumaMatrixDepth (h .least) (h .most)
 
--- Samples below 2^depth are served.
-pub sample-served : {d : ℕ} (v : ℕ) → LumaMatrixDepth d → v < 2 ^ d → v ≤ mostSample
-sample-served {d} v h l = let p = depth-powers h in omega arith
+-- Samples within such depths.
+sample-served : {d v : ℕ} → LumaMatrixDepth d → v < 2 ^ d → v ≤ mostSample
+sample-served h l = let p = depth-powers h in omega arith
 
-pub samples-served : {a b c : ℕ} (p : Pixel) → LumaMatrixDepth a → LumaMatrixDepth b → LumaMatrixDepth c
-    → p .p0 < 2 ^ a → p .p1 < 2 ^ b → p .p2 < 2 ^ c → SamplesServed p
-samples-served p ha hb hc la lb lc =
-    record { p0-in = sample-served (p .p0) ha la; p1-in = sample-served (p .p1) hb lb; p2-in = sample-served (p .p2) hc lc }
+pub samples-served : {a b c : ℕ} {p : Pixel} → LumaMatrixDepth a → LumaMatrixDepth b → LumaMatrixDepth c → Inside a b c p → SamplesServed p
+samples-served a b c h = record { p0-in = sample-served a (h .in0); p1-in = sample-served b (h .in1); p2-in = sample-served c (h .in2) }
 
 -- Scales and targets of the depths served.
 pub record TargetServed (most : ℕ) (t : Target) : Type 0 where

@@ -7,8 +7,8 @@ use lib.IntN.{ℤ, pos, _+ℤ_, _-ℤ_, _*ℤ_}
 use Rattle.whole.proofs.Difference.{parts, parts-of}
 use Rattle.whole.proofs.Closers.{same}
 use Rattle.fraction.specs.Fraction.{Frac, _⊖_, _÷_, _≈_}
-use Rattle.fraction.proofs.Same.{ring, ≈-refl}
-use Rattle.fraction.proofs.Value.{Value, lift, rename, both}
+use Rattle.fraction.proofs.Same.{ring}
+use Rattle.fraction.proofs.Value.{Value, lift, rename, both, itself}
 use Rattle.levels.specs.Paper.{EY, EPB, EPR, ER, EG, EB, Solved}
 use Rattle.levels.specs.Luma.{Shares}
 use Rattle.levels.specs.Rows.{sumOf, rowG}
@@ -76,9 +76,6 @@ module _ (k : Weights) (h : Shares k) {x y z : Frac} {u v w : ℤ} {D : ℕ} (so
   solves-44 = difference-back (k .kr) (g + k .kb) (all-but-red k h) (omega arith) hz (printed-r k h hx hy hz)
 
 -- any three fractions share a denominator, and so the reverse solves for any levels
-itself : (x : Frac) → 0 < x .den → Value x (x .num) (x .den)
-itself x h = record { proper = h; is = ≈-refl x }
-
 pub reverse-solves : (k : Weights) → Shares k → (ey epb epr : Frac) → 0 < ey .den → 0 < epb .den → 0 < epr .den → Solved k ey epb epr
 reverse-solves k h x y z p q r =
     let D = x .den * (y .den * z .den) in

@@ -1,7 +1,7 @@
 -- A row's line is the row, read and written as printed: the line's numbers are the row's, multiplied out.
 use mathlib.Core.Path.{_≡_, refl, sym, ap, _∙_}
 use mathlib.Core.Bool.{Bool, true, false}
-use Prim.Native.Nat.{ℕ, _+_, _*_, _-_, _<_}
+use Prim.Native.Nat.{ℕ, _+_, _*_, _<_}
 use native.Mathlib.Nat.{one-mul, mul-comm}
 use native.Mathlib.Omega.{arith}
 use lib.IntN.{ℤ, pos, _+ℤ_, _-ℤ_, _*ℤ_, +ℤ-idr}
@@ -9,8 +9,8 @@ use Rattle.whole.specs.Whole.{round, clip}
 use Rattle.whole.proofs.Difference.{parts, parts-of}
 use Rattle.whole.proofs.Closers.{same}
 use Rattle.fraction.specs.Fraction.{Frac, _⊕_, _⊗_, whole, Round}
-use Rattle.fraction.proofs.Same.{ring, by-parts, ≈-refl}
-use Rattle.fraction.proofs.Value.{Value, ⊕-value, ⊗-value, lift, rename, Round-value}
+use Rattle.fraction.proofs.Same.{ring, by-parts}
+use Rattle.fraction.proofs.Value.{Value, ⊕-value, ⊗-value, lift, rename, Round-value, itself}
 use Rattle.sample.specs.declared.ChromaDepth.{ChromaDepth}
 use Rattle.sample.specs.declared.Pixel.{Pixel}
 use Rattle.sample.specs.Depth.{M, H}
@@ -24,7 +24,7 @@ use Rattle.levels.specs.declared.prepared.Target.{Target}
 
 -- a sample's level, on its own scale, and as parts of a denominator that two scales share
 level-value : (s : Scale) (v : ℕ) → 0 < s .times → Value (level s v) (pos v -ℤ pos (s .plus)) (s .times)
-level-value s v h = record { proper = h; is = ≈-refl _ }
+level-value s v = itself (level s v)
 
 pub rgb-value : (s : Scale) (v : ℕ) → 0 < s .times → Value (level s v) (read (source 1 (s .plus)) v) (s .times)
 rgb-value s v h = rename refl (one-mul _) (lift 1 (level-value s v h))

@@ -1,6 +1,6 @@
 -- Numerator and denominator of a level are exact as floats, so that the division rounds once and never gives a NaN.
 use mathlib.Core.Path.{_≡_, refl, sym, ap, _∙_, subst}
-use mathlib.Core.Bool.{Bool, true, false, not, cond}
+use mathlib.Core.Bool.{Bool, true, false, cond}
 use Prim.Native.Nat.{ℕ, zero, suc, _+_, _*_, _^_, _≤_, _<_}
 use native.Mathlib.Nat.{mul-pos}
 use native.Mathlib.Omega.{arith}
@@ -13,7 +13,7 @@ use lib.Ieee.Back.{round-whole}
 use lib.Ieee.Scale.{round-same}
 use Rattle.whole.proofs.Difference.{Holds, subtracted}
 use Rattle.levels.specs.declared.Scale.{Scale}
-use Rattle.meter.specs.Level.{quotient, IsExactly, nearestTo, Measurable}
+use Rattle.meter.specs.Level.{quotient, IsExactly, nearestTo, IsNumber, Measurable}
 
 -- Whole numbers of up to 24 bits.
 pub in-float : (z : ℤ) → natAbs z ≤ 2 ^ 24 → T (inFloat binary32 z)
@@ -68,29 +68,29 @@ pub one-rounding : (v : ℕ) (s : Scale) → v ≤ 65536 → Measurable s → qu
 one-rounding v s l h = over (pos v -ℤ pos (s .plus)) (s .times) (numerator-size v s l h) (h .some) (omega arith)
 
 -- What `f32::to_bits` asks of a level.
-odd-number : (d : ℕ) (s : Bool) (q k l : ℕ) → T (not (isNan (odd d s q k l)))
+odd-number : (d : ℕ) (s : Bool) (q k l : ℕ) → IsNumber (odd d s q k l)
 unfolding odd isNan
 odd-number d s zero k l = tt
 odd-number d s (suc q) k l = tt
 
-chosen-number : (b : Bool) (x y : Float) → T (not (isNan x)) → T (not (isNan y)) → T (not (isNan (cond b x y)))
+chosen-number : (b : Bool) (x y : Float) → IsNumber x → IsNumber y → IsNumber (cond b x y)
 chosen-number true x y h k = h
 chosen-number false x y h k = k
 
-units-number : (f : Format) (s : Bool) (q k : ℕ) → T (not (isNan (units f s q k)))
+units-number : (f : Format) (s : Bool) (q k : ℕ) → IsNumber (units f s q k)
 unfolding units isNan
 units-number f s q k =
     chosen-number (ltb (q * 2 ^ k) (2 ^ (low f + suc (emax f)))) (odd (suc (prec f)) s q k (low f)) (inf s)
     (odd-number (suc (prec f)) s q k (low f)) tt
 
-round-number : (f : Format) (s : Bool) (m n : ℕ) → T (not (isNan (round f s m n)))
+round-number : (f : Format) (s : Bool) (m n : ℕ) → IsNumber (round f s m n)
 unfolding round
 round-number f s m n = units-number f s _ _
 
-nearest-number : (z : ℤ) (n : ℕ) → T (not (isNan (nearestTo z n)))
+nearest-number : (z : ℤ) (n : ℕ) → IsNumber (nearestTo z n)
 nearest-number (pos m) n = round-number binary32 false m n
 nearest-number (negsuc m) n = round-number binary32 true (suc m) n
 
-pub is-number : (v : ℕ) (s : Scale) → v ≤ 65536 → Measurable s → T (not (isNan (quotient v s)))
+pub is-number : (v : ℕ) (s : Scale) → v ≤ 65536 → Measurable s → IsNumber (quotient v s)
 is-number v s l h =
-    subst (λ x. T (not (isNan x))) (sym (one-rounding v s l h)) (nearest-number (pos v -ℤ pos (s .plus)) (s .times))
+    subst IsNumber (sym (one-rounding v s l h)) (nearest-number (pos v -ℤ pos (s .plus)) (s .times))

@@ -1,17 +1,15 @@
 -- The scale of every kind of sample, at every depth, is one that the meter takes: so a level is rounded once, and is no NaN.
 use mathlib.Core.Path.{_≡_}
-use mathlib.Core.Bool.{Bool, true, false, not}
+use mathlib.Core.Bool.{Bool, true, false}
 use Prim.Native.Nat.{ℕ, _≤_}
 use native.Mathlib.Omega.{arith}
-use lib.Dec.{T}
 use lib.IntN.{pos, _-ℤ_}
-use lib.Ieee.{isNan}
 use Rattle.sample.specs.Depth.{Depth, mostDepth}
 use Rattle.sample.specs.declared.LumaDepth.{LumaDepth}
 use Rattle.sample.specs.declared.ChromaDepth.{ChromaDepth}
 use Rattle.sample.proofs.DepthLaws.{powers}
 use Rattle.levels.specs.Paper.{lumaScale, chromaScale}
-use Rattle.meter.specs.Level.{scaleOf, levelOf, nearestTo, Measurable}
+use Rattle.meter.specs.Level.{scaleOf, levelOf, nearestTo, IsNumber, Measurable}
 use Rattle.meter.specs.declared.SampleKind.{SampleKind}
 use Rattle.meter.specs.declared.SampleKind.the-variants.{Y, Cb, Cr}
 use Rattle.meter.proofs.Exact.{one-rounding, is-number}
@@ -37,6 +35,6 @@ module _ (kind : SampleKind) (full : Bool) (luma : LumaDepth) (chroma : ChromaDe
   level-rounded-once = one-rounding v (scaleOf kind full luma chroma) l (measurable kind full luma chroma h k)
 
   -- what `f32::to_bits` asks of it
-  pub level-is-number : T (not (isNan (levelOf kind full luma chroma v)))
+  pub level-is-number : IsNumber (levelOf kind full luma chroma v)
   unfolding levelOf
   level-is-number = is-number v (scaleOf kind full luma chroma) l (measurable kind full luma chroma h k)

@@ -1,8 +1,9 @@
 -- A level is the single float quotient of a sample's numerator and denominator.
-use mathlib.Core.Bool.{Bool, true, false}
+use mathlib.Core.Bool.{Bool, true, false, not}
 use Prim.Native.Nat.{ℕ, suc, _≤_, _<_}
+use lib.Dec.{T}
 use lib.IntN.{ℤ, pos, negsuc, _-ℤ_}
-use lib.Ieee.{Float, binary32, round, ofInt, div}
+use lib.Ieee.{Float, binary32, round, ofInt, div, isNan}
 use lib.Ieee.Exact.{HasValue}
 use Rattle.sample.specs.declared.LumaDepth.{LumaDepth}
 use Rattle.sample.specs.declared.ChromaDepth.{ChromaDepth}
@@ -51,6 +52,13 @@ IsExactly x (negsuc n) = HasValue x true (suc n) 1
 abbrev pub nearestTo : ℤ → ℕ → Float
 nearestTo (pos m) n = round binary32 false m n
 nearestTo (negsuc m) n = round binary32 true (suc m) n
+
+-- a float that is a number, and so has bits of its own; three levels that are
+abbrev pub IsNumber : Float → Type 0
+IsNumber x = T (not (isNan x))
+
+abbrev pub AreNumbers : Levels → Type 0
+AreNumbers l = IsNumber (l .y) × (IsNumber (l .cb) × IsNumber (l .cr))
 
 -- a scale of any depth from 8 to 16
 pub record Measurable (s : Scale) : Type 0 where

@@ -2,11 +2,12 @@
 -- sample inside the picture is within its depth.
 use mathlib.Core.Path.{_≡_, sym, _∙_}
 use mathlib.Core.List.{List, [], _∷_}
-use Prim.Native.Nat.{ℕ, zero, suc, _-_, _^_, _≤_, _<_}
+use mathlib.Core.Logic.{_↔_}
+use Prim.Native.Nat.{ℕ, zero, suc, _^_, _≤_, _<_}
 use native.Mathlib.Omega.{arith}
 use lib.ListN.{getD}
 use lib.Pow.{pow-pos}
-use Rattle.sample.specs.Depth.{M}
+use Rattle.sample.specs.Depth.{M, Inside}
 use Rattle.sample.specs.declared.Depths.{Depths}
 use Rattle.refusal.proofs.TableLaws.{neither}
 use Rattle.setting.specs.Refusals.{depths, served, refusalOf, judged}
@@ -14,13 +15,13 @@ use Rattle.setting.specs.declared.Call.{Call}
 use Rattle.setting.specs.declared.Setting.{Setting}
 use Rattle.setting.specs.declared.verdict.Served.{Served}
 use Rattle.setting.specs.declared.verdict.Verdict.the-variants as verdict
-use Rattle.plane.specs.First.{AllFine}
+use Rattle.plane.specs.First.{badSample, AllFine}
 use Rattle.plane.specs.Sizes.{sizeRefusal, EverySide, ServedSide}
 use Rattle.plane.specs.declared.search.Found.the-variants.{Nothing}
 use Rattle.plane.specs.declared.size.Side.{Side}
 use Rattle.plane.proofs.SizeTheorems as sizes
 use Rattle.plane.proofs.SearchTheorems.{nothing-in-planes-means}
-use Rattle.pixel.specs.Pixel.{tops, InsideSource}
+use Rattle.pixel.specs.Pixel.{InsideSource}
 use Rattle.pixel.specs.Ready.{Ready}
 use Rattle.pixel.specs.declared.Way.{Way}
 use Rattle.pixel.specs.declared.Way.the-variants.{Forward, Reverse}
@@ -35,43 +36,37 @@ pub record Accepted (call : Call) (way : Way) (s : Setting) (a : Picture) (other
   pub sizes : sizeRefusal (a .width) (a .height) (sideOfPicture a ∷ others) ≡ 0
   pub samples : beyondDepth way (depths s) a ≡ Nothing
 
--- a sample that is not above the largest of its depth
-within : (d v : ℕ) → v ≤ 2 ^ d - 1 → v < 2 ^ d
-within d v h = omega (arith, pow-pos d)
+-- a sample is not above the largest of its depth exactly if it is below 2^depth
+within : (d v : ℕ) → (v ≤ M d) ↔ (v < 2 ^ d)
+within d v = (λ h. omega (arith, pow-pos d), λ h. omega arith)
 
--- every sample within its depth, by the way in which the picture is read
-pub inside-by : (way : Way) (d : Depths) (a : Picture) → beyondDepth way d a ≡ Nothing → EveryPixel (InsideSource way d) a
-inside-by Forward d a e j i h k =
-    let fine = nothing-in-planes-means (planes a) (a .stride) (a .width) (a .height) _ .0 e in
-    record {
-      in0 = within (d .rgb .0) _ (fine 0 (omega arith) j i h k);
-      in1 = within (d .rgb .0) _ (fine 1 (omega arith) j i h k);
-      in2 = within (d .rgb .0) _ (fine 2 (omega arith) j i h k);
-    }
-inside-by Reverse d a e j i h k =
-    let fine = nothing-in-planes-means (planes a) (a .stride) (a .width) (a .height) _ .0 e in
-    record {
-      in0 = within (d .luma .0) _ (fine 0 (omega arith) j i h k);
-      in1 = within (d .chroma .0) _ (fine 1 (omega arith) j i h k);
-      in2 = within (d .chroma .0) _ (fine 2 (omega arith) j i h k);
-    }
+-- no sample is bad exactly if every one lies within the depth of its plane
+module _ (x y z : ℕ) (a : Picture) where
+  abbrev largest : List ℕ
+  largest = M x ∷ M y ∷ M z ∷ []
 
--- and back: where every sample is within its depth, none is bad
-not-beyond : (d v : ℕ) → v < 2 ^ d → v ≤ M d
-not-beyond d v h = omega arith
+  fine : EveryPixel (Inside x y z) a → (k : ℕ) → k < 3 → AllFine (getD (planes a) k []) (a .stride) (a .width) (a .height) (getD largest k 0)
+  fine h zero l j i p q = within x _ .1 (h j i p q .in0)
+  fine h (suc zero) l j i p q = within y _ .1 (h j i p q .in1)
+  fine h (suc (suc zero)) l j i p q = within z _ .1 (h j i p q .in2)
+  fine h (suc (suc (suc k))) l j i p q = absurd (omega arith)
 
-pub none-beyond : (way : Way) (d : Depths) (a : Picture) → EveryPixel (InsideSource way d) a → beyondDepth way d a ≡ Nothing
-none-beyond way d a e = nothing-in-planes-means (planes a) (a .stride) (a .width) (a .height) _ .1 (fine way e)
-  where
-    fine : (w : Way) → EveryPixel (InsideSource w d) a → (k : ℕ) → k < 3
-        → AllFine (getD (planes a) k []) (a .stride) (a .width) (a .height) (getD (tops w d .p0 ∷ tops w d .p1 ∷ tops w d .p2 ∷ []) k 0)
-    fine Forward h zero l j i x y = not-beyond (d .rgb .0) _ (h j i x y .in0)
-    fine Forward h (suc zero) l j i x y = not-beyond (d .rgb .0) _ (h j i x y .in1)
-    fine Forward h (suc (suc zero)) l j i x y = not-beyond (d .rgb .0) _ (h j i x y .in2)
-    fine Reverse h zero l j i x y = not-beyond (d .luma .0) _ (h j i x y .in0)
-    fine Reverse h (suc zero) l j i x y = not-beyond (d .chroma .0) _ (h j i x y .in1)
-    fine Reverse h (suc (suc zero)) l j i x y = not-beyond (d .chroma .0) _ (h j i x y .in2)
-    fine w h (suc (suc (suc k))) l j i x y = absurd (omega arith)
+  all-inside : (badSample (planes a) (a .stride) (a .width) (a .height) largest ≡ Nothing) ↔ EveryPixel (Inside x y z) a
+  all-inside =
+      let t = nothing-in-planes-means (planes a) (a .stride) (a .width) (a .height) largest in (
+        λ e j i p q.
+            record {
+              in0 = within x _ .0 (t .0 e 0 (omega arith) j i p q);
+              in1 = within y _ .0 (t .0 e 1 (omega arith) j i p q);
+              in2 = within z _ .0 (t .0 e 2 (omega arith) j i p q);
+            },
+        λ h. t .1 (fine h),
+      )
+
+-- whichever way the picture is read
+pub inside-exactly : (way : Way) (d : Depths) (a : Picture) → (beyondDepth way d a ≡ Nothing) ↔ EveryPixel (InsideSource way d) a
+inside-exactly Forward d a = all-inside (d .rgb .0) (d .rgb .0) (d .rgb .0) a
+inside-exactly Reverse d a = all-inside (d .luma .0) (d .chroma .0) (d .chroma .0) a
 
 module _ (call : Call) (way : Way) (s : Setting) (a : Picture) (others : List Side) where
   pub accepted-of : (x : Served) → pictureVerdict call way s a others ≡ verdict.Served x → Accepted call way s a others × (served s ≡ x)
@@ -93,4 +88,4 @@ module _ (call : Call) (way : Way) (s : Setting) (a : Picture) (others : List Si
     sides-served = sizes.served _ _ _ (k .sizes)
 
     pub pixels-inside : EveryPixel (InsideSource way (depths s)) a
-    pixels-inside = inside-by way (depths s) a (k .samples)
+    pixels-inside = inside-exactly way (depths s) a .0 (k .samples)

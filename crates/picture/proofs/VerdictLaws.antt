@@ -1,8 +1,8 @@
 -- The verdict on a picture, by what the code has found out so far.
-use mathlib.Core.Path.{_≡_, refl, sym, ap}
+use mathlib.Core.Path.{_≡_, refl, sym, ap, subst}
+use mathlib.Core.Bool.{true≢false}
 use mathlib.Core.List.{List, [], _∷_}
 use Prim.Native.Nat.{ℕ}
-use native.Mathlib.Omega.{arith}
 use borrow.Author.Tests.{eqb-true, eqb-false, ne-eqb}
 use lib.Dec.{eqb}
 use Rattle.sample.proofs.Picks.{chose-first, chose-second}
@@ -19,14 +19,15 @@ use Rattle.plane.specs.declared.search.Found.{Found}
 use Rattle.plane.specs.declared.search.Found.the-variants as found
 use Rattle.plane.specs.declared.size.Side.{Side}
 use Rattle.plane.proofs.SizeLaws.{twice}
-use Rattle.pixel.specs.Ready.{ThreeDepths, Ready}
+use Rattle.pixel.specs.Ready.{Ready}
 use Rattle.pixel.specs.declared.Way.{Way}
+use Rattle.pixel.proofs.ReadyLaws.{ready}
 use Rattle.picture.specs.Picture.{Picture, sideOfPicture}
 use Rattle.picture.specs.Verdict.{beyondDepth, pastServed, past, pictureVerdict}
 
 -- a verdict is one of the two
 never-both : (x : Served) (r : Refusal) → verdict.Served x ≡ verdict.Refused r → ⊥
-never-both x r e = let z : _≡_ {A = ℕ} 0 1 = cc in omega arith
+never-both x r e = true≢false cc
 
 -- what a verdict tells of the number that it was made by
 pub told-served : (n : ℕ) (x y : Served) → judged n x ≡ verdict.Served y → (n ≡ 0) × (x ≡ y)
@@ -50,8 +51,11 @@ pub past-both : (v : Verdict) (f : Found) (x : Served) → past v f ≡ verdict.
 past-both (verdict.Refused r) f x e = absurd (never-both x r (sym e))
 past-both (verdict.Served y) f x e = let t = served-past y f x e in (ap verdict.Served (t .0), t .1)
 
-pub three : {x : Served} → Ready x → ThreeDepths (x .depths)
-three r = record { rgb = r .rgb; luma = r .luma; chroma = r .chroma }
+-- what the setting's rows serve is ready
+pub verdict-ready : (call : Call) (s : Setting) (x : Served) → verdictOf call s ≡ verdict.Served x → Ready x
+verdict-ready call s x e =
+    let t = told-served (refusalOf call s) (served s) x e in
+    subst Ready (t .1) (ready call s (t .0))
 
 -- the verdict, group by group of rows
 module _ (call : Call) (way : Way) (s : Setting) (a : Picture) (others : List Side) where

@@ -2,7 +2,7 @@
 ghost use mathlib.Core.Path.{_≡_};
 ghost use mathlib.Core.List.{[], _∷_};
 ghost use Rattle.plane.specs.Sizes.{Long, Sized, needed};
-ghost use Rattle.pixel.specs.Ready.{ThreeDepths};
+ghost use Rattle.sample.specs.Depth.{ThreeDepths};
 ghost use lib.ListN.{length};
 ghost use Rattle.picture.specs.Picture.{picture};
 ghost use Rattle.picture.specs.Verdict.{past, beyondDepth, pictureVerdict};

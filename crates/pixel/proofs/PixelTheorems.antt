@@ -1,14 +1,14 @@
 -- What the pixel's formulas do on settings that are not refused: samples stay within depth, lossless settings lose nothing, and a
 -- luma and chroma pixel has a source exactly if it comes back the same. Once for all depths, family by family.
 use mathlib.Core.Path.{_≡_, refl, sym, ap, _∙_, subst}
-use mathlib.Core.Bool.{Bool, true, false, cond, _&&_}
+use mathlib.Core.Bool.{Bool, true, false, true≢false}
 use mathlib.Core.Logic.{⊎-elim}
-use Prim.Native.Nat.{ℕ, _+_, _^_, _≤_, _<_}
+use Prim.Native.Nat.{ℕ, _+_, _^_, _<_}
 use native.Mathlib.Omega.{arith}
 use borrow.Author.Tests.{eqb-true, eq-eqb, ne-eqb}
 use lib.Dec.{eqb}
 use Rattle.fraction.specs.Fraction.{Frac}
-use Rattle.sample.specs.Depth.{Depth, Inside, InsideRGB, InsideYCC}
+use Rattle.sample.specs.Depth.{InsideRGB, InsideYCC}
 use Rattle.sample.specs.declared.ChromaDepth.{ChromaDepth}
 use Rattle.sample.specs.declared.Depths.{Depths}
 use Rattle.sample.specs.declared.Pixel.{Pixel}
@@ -63,7 +63,7 @@ roomy-8 d k e = record { chroma-room = omega (arith, k .as-deep, e); luma-room =
 
 pub roomy-R : (s : Served) (added : ℕ) → Ready s → Agreed (YCgCoR added) s → Roomy (s .depths)
 roomy-R s added r k =
-    record { chroma-room = omega (arith, k .1 .0, k .1 .1); luma-room = omega (arith, k .0, k .1 .0); chroma-most = r .chroma .most }
+    record { chroma-room = omega (arith, k .1 .0, k .1 .1); luma-room = omega (arith, k .0, k .1 .0); chroma-most = r .three .chroma .most }
 
 -- code 8 is lossy at equal depths, and lossless where chroma is one bit deeper
 pub lossy-8 : (w : Way) (d : Depths) (p : Pixel) → d .chroma .0 ≡ d .luma .0 → ycgco8 w d p ≡ lossy w d p
@@ -117,7 +117,7 @@ module _ (s : Served) (p : Pixel) (r : Ready s) where
   trip-by : (f : Family) → Agreed f s → setting.lossless f (s .depths) ≡ true → InsideRGB (s .depths) p
       → convertBy Reverse f s (convertBy Forward f s p) ≡ p
   trip-by Identity k e h = refl
-  trip-by (Luma w) k e h = absurd (let z : _≡_ {A = ℕ} 0 1 = cc in omega arith)
+  trip-by (Luma w) k e h = absurd (true≢false cc)
   trip-by YCgCo k e h =
       let q = eqb-true _ _ e in
       lossless-8 Reverse (s .depths) (convertBy Forward YCgCo s p) q

@@ -1,23 +1,21 @@
 -- A setting that no row refuses is ready: rows 6 and 7 say so of its depths, and the table of matrices of its weights.
-use mathlib.Core.Path.{_≡_, refl, sym, ap, _∙_, subst}
-use mathlib.Core.Bool.{Bool, true, false, cond, not, _&&_, _||_}
+use mathlib.Core.Path.{_≡_, refl}
+use mathlib.Core.Bool.{Bool, true, false, cond, not, _||_}
 use mathlib.Core.List.{List, [], _∷_}
 use mathlib.Core.Logic.{_⊎_, inl, inr, ⊎-elim}
-use Prim.Native.Nat.{ℕ, zero, suc, _+_, _≤_, _<_}
+use Prim.Native.Nat.{ℕ, zero, suc, _≤_}
 use native.Mathlib.Omega.{arith}
 use borrow.Author.Tests.{eqb-true, not-false}
-use lib.Dec.{eqb}
 use lib.ListN.{getD}
-use Rattle.sample.specs.Depth.{areDepths, atMost, depthsOf}
-use Rattle.sample.proofs.DepthLaws.{AllDepths, AtMost, depths-of, at-most-of}
-use Rattle.sample.proofs.Picks.{both-true}
+use Rattle.sample.specs.Depth.{areDepths, atMost, ThreeDepths}
+use Rattle.sample.proofs.DepthLaws.{AtMost, depths-of, at-most-of}
+use Rattle.sample.proofs.Picks.{both-true, chose-second}
 use Rattle.refusal.specs.Table.{first}
-use Rattle.refusal.proofs.TableLaws.{neither}
 use Rattle.levels.specs.Luma.{Shares}
 use Rattle.setting.specs.Matrix.{matrices, matrixOf}
 use Rattle.setting.specs.Agreement.{mostFor, depthsServed, agree, lossless}
-use Rattle.setting.specs.Refusals.{family, familyOf, depths, served, answers, codeRows, depthRows, refusalOf}
-use Rattle.setting.proofs.RefusalLaws.{in-turn}
+use Rattle.setting.specs.Refusals.{family, familyOf, depths, served, answers, refusalOf}
+use Rattle.setting.proofs.RefusalLaws.{groups}
 use Rattle.setting.specs.declared.Call.{Call}
 use Rattle.setting.specs.declared.Call.the-variants as call
 use Rattle.setting.specs.declared.Setting.{Setting}
@@ -26,7 +24,7 @@ use Rattle.setting.specs.declared.matrix.Family.the-variants.{Identity, Luma, Y
 use Rattle.setting.specs.declared.matrix.Matrix.{Matrix}
 use Rattle.setting.specs.declared.matrix.Matrix.the-variants as matrix
 use Rattle.setting.specs.declared.verdict.Served.{Served}
-use Rattle.pixel.specs.Ready.{DepthsOf8, Agreed, Ready}
+use Rattle.pixel.specs.Ready.{Agreed, Ready}
 
 -- what the table of matrices gives each family: weights that make up the whole, and a bit at least that is added
 abbrev Sound : Family → Type 0
@@ -51,16 +49,11 @@ sound : (code : ℕ) → SoundMatrix (matrixOf code)
 unfolding matrixOf
 sound code = sound-at matrices code (omega arith)
 
--- a row that was passed, and those after it
-passed : (b : Bool) (n m : ℕ) → 0 < n → cond b n m ≡ 0 → (b ≡ false) × (m ≡ 0)
-passed true n m h e = absurd (omega arith)
-passed false n m h e = (refl, e)
-
 either-true : (a b : Bool) → a || b ≡ true → (a ≡ true) ⊎ (b ≡ true)
 either-true true b e = inl refl
 either-true false b e = inr e
 
-module _ (s : Served) (h : AllDepths (s .depths .rgb .0) (s .depths .luma .0) (s .depths .chroma .0)) where
+module _ (s : Served) (h : ThreeDepths (s .depths)) where
   agreed : (f : Family) → Sound f → AtMost (mostFor f) (s .depths) → agree f (s .depths) (s .«rgb_full») (s .«ycc_full») ≡ true → Agreed f s
   agreed Identity k m e =
       let t = both-true _ _ e in
@@ -89,9 +82,6 @@ module _ (s : Served) (h : AllDepths (s .depths .rgb .0) (s .depths .luma .0) (s
 
 -- what the rows on depths leave
 module _ (call : Call) (s : Setting) (e : refusalOf call s ≡ 0) where
-  rows : first (depthRows call (family s) s) ≡ 0
-  rows = neither (first (codeRows (matrixOf (s .matrix)) (s .primaries) (s .transfer))) (first (depthRows call (family s) s)) (sym (in-turn call s) ∙ e) .1
-
   abbrev Fit : Bool
   Fit = depthsServed (family s) (s .«rgb_depth») (s .«y_depth») (s .«c_depth»)
 
@@ -103,10 +93,10 @@ module _ (call : Call) (s : Setting) (e : refusalOf call s ≡ 0) where
 
   after-6 : (not Fit ≡ false) × (cond (not Agree) (suc 6) (cond (not Answers) 11 0) ≡ 0)
   unfolding first
-  after-6 = passed (not Fit) 6 (cond (not Agree) 7 (cond (not Answers) 11 0)) (omega arith) rows
+  after-6 = chose-second (not Fit) 6 (cond (not Agree) 7 (cond (not Answers) 11 0)) 0 (groups call s e .1) (λ q. omega arith)
 
   after-7 : (not Agree ≡ false) × (cond (not Answers) (suc 10) 0 ≡ 0)
-  after-7 = passed (not Agree) 7 (cond (not Answers) 11 0) (omega arith) (after-6 .1)
+  after-7 = chose-second (not Agree) 7 (cond (not Answers) 11 0) 0 (after-6 .1) (λ q. omega arith)
 
   row-6 : Fit ≡ true
   row-6 = not-false _ (after-6 .0)
@@ -115,7 +105,7 @@ module _ (call : Call) (s : Setting) (e : refusalOf call s ≡ 0) where
   row-7 = not-false _ (after-7 .0)
 
   pub row-11 : Answers ≡ true
-  row-11 = not-false _ (passed (not Answers) 11 0 (omega arith) (after-7 .1) .0)
+  row-11 = not-false _ (chose-second (not Answers) 11 0 0 (after-7 .1) (λ q. omega arith) .0)
 
   parts : (areDepths (s .«rgb_depth») (s .«y_depth») (s .«c_depth») ≡ true) × (atMost (mostFor (family s)) (depths s) ≡ true)
   unfolding depthsServed
@@ -123,13 +113,8 @@ module _ (call : Call) (s : Setting) (e : refusalOf call s ≡ 0) where
 
   pub ready : Ready (served s)
   ready =
-      let h = depths-of _ _ _ (parts .0) in
-      record {
-        rgb = h .rgb;
-        luma = h .luma;
-        chroma = h .chroma;
-        agreed = agreed (served s) h (family s) (sound (s .matrix)) (at-most-of _ _ (parts .1)) row-7;
-      }
+      let h = depths-of (depths s) (parts .0) in
+      record { three = h; agreed = agreed (served s) h (family s) (sound (s .matrix)) (at-most-of _ _ (parts .1)) row-7 }
 
 -- a setting that the image check takes is lossless
 pub is-lossless : (s : Setting) → refusalOf call.ImageCheck s ≡ 0 → lossless (family s) (depths s) ≡ true

@@ -1,5 +1,5 @@
 -- The conversion of one pixel, by the formulas of the setting's family.
-use mathlib.Core.Bool.{Bool, true, false, cond}
+use mathlib.Core.Bool.{cond}
 use lib.Dec.{eqb}
 use Rattle.sample.specs.Depth.{M, InsideRGB, InsideYCC}
 use Rattle.sample.specs.declared.Depths.{Depths}

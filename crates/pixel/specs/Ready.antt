@@ -1,20 +1,14 @@
 -- What a setting that is not refused has, as facts that the formulas' code leans on.
 use mathlib.Core.Path.{_≡_}
 use mathlib.Core.Logic.{_⊎_}
-use Prim.Native.Nat.{ℕ, _+_, _≤_}
-use Rattle.sample.specs.Depth.{Depth}
+use Prim.Native.Nat.{_+_, _≤_}
+use Rattle.sample.specs.Depth.{Depth, ThreeDepths}
 use Rattle.sample.specs.declared.Depths.{Depths}
 use Rattle.levels.specs.Luma.{LumaServed}
 use Rattle.setting.specs.declared.matrix.Family.{Family}
 use Rattle.setting.specs.declared.matrix.Family.the-variants.{Identity, Luma, YCgCo, YCgCoR}
 use Rattle.setting.specs.declared.verdict.Served.{Served}
 use Rattle.pixel.specs.Pixel.{lumaSetting}
-
--- three depths
-pub record ThreeDepths (d : Depths) : Type 0 where
-  pub rgb : Depth (d .rgb .0)
-  pub luma : Depth (d .luma .0)
-  pub chroma : Depth (d .chroma .0)
 
 -- the depths of code 8
 pub record DepthsOf8 (d : Depths) : Type 0 where
@@ -32,7 +26,5 @@ Agreed (YCgCoR added) s =
     (s .depths .luma .0 ≡ s .depths .chroma .0) × ((s .depths .chroma .0 ≡ s .depths .rgb .0 + added) × (1 ≤ added))
 
 pub record Ready (s : Served) : Type 0 where
-  pub rgb : Depth (s .depths .rgb .0)
-  pub luma : Depth (s .depths .luma .0)
-  pub chroma : Depth (s .depths .chroma .0)
+  pub three : ThreeDepths (s .depths)
   pub agreed : Agreed (s .family) s

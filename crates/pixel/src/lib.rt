@@ -1,11 +1,11 @@
 // One pixel, both ways: the family sorts the formulas, and what a luma matrix needs is prepared once.
 ghost use mathlib.Core.Path.{_≡_};
 ghost use Prim.Native.Nat.{_≤_};
-ghost use Rattle.sample.specs.Depth.{M, InsideRGB, InsideYCC};
+ghost use Rattle.sample.specs.Depth.{ThreeDepths, M, InsideYCC};
 ghost use Rattle.ycgco.specs.YCgCo.{Plain, Roomy};
 ghost use Rattle.levels.specs.Luma.{LumaServed, SamplesServed};
 ghost use Rattle.pixel.specs.Pixel.{swap, lossy, lossless, luma, lines, ycgco8, preparedFor, convert, InsideSource, callOf, tops};
-ghost use Rattle.pixel.specs.Ready.{ThreeDepths, DepthsOf8, Ready};
+ghost use Rattle.pixel.specs.Ready.{DepthsOf8, Ready};
 ghost use Rattle.pixel.specs.Source.{samePixel, hasSource};
 use levels::Lines;
 use levels::LumaSetting;

@@ -1,15 +1,15 @@
 -- What an output plane holds, element by element, and that it depends on the picture's samples alone.
 use mathlib.Core.Path.{_≡_, refl, sym, _∙_}
 use mathlib.Core.Bool.{Bool, true, false, _&&_, cond}
-use mathlib.Core.List.{List, [], _∷_}
+use mathlib.Core.List.{List}
 use Prim.Native.Nat.{ℕ, _+_, _*_, _/_, _%_, _≤_, _<_}
 use native.Mathlib.Nat.{div-add-mod'}
 use native.Mathlib.Omega.{arith}
 use borrow.Author.Tests.{ltb-true}
 use lib.Dec.{ltb}
-use lib.ListN.{length, getD, List·getD-eq-default}
+use lib.ListN.{length, getD}
 use Rattle.sample.proofs.Picks.{both-true, cannot}
-use Rattle.plane.specs.Plane.{tab, cell, planeOf, sampleAt, pixelAt, SamePicture}
+use Rattle.plane.specs.Plane.{cell, planeOf, sampleAt, pixelAt, SamePicture}
 use Rattle.plane.proofs.Tables.{length-tab, tab-at, tab-same}
 use Rattle.plane.proofs.Painted.{cell-in}
 
@@ -27,13 +27,10 @@ module _ (n stride width height : ℕ) where
   unfolding planeOf
   plane-length sample = length-tab n _
 
-  -- an element of the plane, and what is read past its end
+  -- an element of the plane
   pub plane-at : (sample : ℕ → ℕ → ℕ) (k : ℕ) → k < n → getD (planeOf n stride width height sample) k 0 ≡ cell stride width height sample k
   unfolding planeOf
   plane-at sample k l = tab-at n _ k l
-
-  pub plane-past : (sample : ℕ → ℕ → ℕ) (k : ℕ) → n ≤ k → getD (planeOf n stride width height sample) k 0 ≡ 0
-  plane-past sample k l = List·getD-eq-default (planeOf n stride width height sample) 0 (omega (arith, plane-length sample))
 
   -- an element of the picture
   pub plane-inside : (sample : ℕ → ℕ → ℕ) (j i : ℕ) → j < height → i < width → width ≤ stride → j * stride + i < n
@@ -67,8 +64,3 @@ pub pixel-same : (stride width height : ℕ) (p0 p1 p2 q0 q1 q2 : List ℕ)
     → SamePicture stride width height p0 q0 → SamePicture stride width height p1 q1 → SamePicture stride width height p2 q2
     → (j i : ℕ) → j < height → i < width → pixelAt p0 p1 p2 stride j i ≡ pixelAt q0 q1 q2 stride j i
 pixel-same stride width height p0 p1 p2 q0 q1 q2 e0 e1 e2 j i a b = rw (e0 j i a b, e1 j i a b, e2 j i a b)
-
--- four elements with width 2, height 1 and stride 3: two samples, one element of padding and one past the picture
-pub two-samples : (sample : ℕ → ℕ → ℕ) → planeOf 4 3 2 1 sample ≡ sample 0 0 ∷ sample 0 1 ∷ 0 ∷ 0 ∷ []
-unfolding planeOf tab cell
-two-samples sample = refl

@@ -1,14 +1,13 @@
 -- What the answer of a search means, and that it depends on the picture's samples alone.
 use mathlib.Core.Path.{_≡_, refl, sym, _∙_, subst}
-use mathlib.Core.Bool.{Bool, true, false}
+use mathlib.Core.Bool.{Bool, true, false, true≢false}
 use mathlib.Core.List.{List, [], _∷_}
 use mathlib.Core.Logic.{_↔_, ⊎-elim, inl, inr}
-use Prim.Native.Nat.{ℕ, zero, suc, _-_, _^_, _≤_, _<_}
+use Prim.Native.Nat.{ℕ, zero, suc, _≤_, _<_}
 use native.Mathlib.Nat.{eq-or-lt-of-le, le-of-suc-le-suc, not-suc-le-zero}
 use native.Mathlib.Omega.{arith}
 use borrow.Author.Tests.{ltb-true, ltb-false, lt-ltb, le-ltb}
 use lib.ListN.{length, getD}
-use lib.Pow.{pow-pos}
 use Rattle.sample.proofs.Picks.{chose-first, chose-second}
 use Rattle.refusal.specs.Table.{at}
 use Rattle.refusal.specs.declared.Place.{Place}
@@ -18,14 +17,10 @@ use Rattle.plane.specs.declared.search.Found.{Found}
 use Rattle.plane.specs.declared.search.Found.the-variants.{At, Nothing}
 use Rattle.plane.proofs.Searches.{first-here, none-of, first-same}
 
--- a sample is above the largest of its depth exactly where it is 2^depth or more
-pub beyond-depth : (depth s : ℕ) → (2 ^ depth - 1 < s) ↔ (2 ^ depth ≤ s)
-beyond-depth depth s = (λ h. omega (arith, pow-pos depth), λ h. omega (arith, pow-pos depth))
-
 -- ---- any search
 
 something : (place : Place) → At place ≡ Nothing → ⊥
-something place e = let z : _≡_ {A = ℕ} 0 1 = cc in omega arith
+something place e = true≢false cc
 
 -- where a search found nothing, nothing is at any place searched
 none-step : (f : ℕ → Found) (n : ℕ) (x : Found) → (x ≡ Nothing → (i : ℕ) → i < n → f i ≡ Nothing)

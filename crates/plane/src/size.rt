@@ -96,10 +96,3 @@ pub fn size_refusal_two(width: usize, height: usize, a: Side, b: Side) -> u8
     }
     0
 }
-
-// Refusal 8 or 9 of a call that has one side, or 0: to name the side twice changes nothing.
-pub fn size_refusal_one(width: usize, height: usize, side: Side) -> u8
-    ensures { λ r. ⌜ r ≡ sizeRefusal width height (side ∷ []) ⌝ }
-{
-    size_refusal_two(width, height, side, side)
-}

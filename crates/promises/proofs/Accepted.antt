@@ -24,7 +24,7 @@ use Rattle.pixel.specs.Pixel.{convert, callOf, InsideSource}
 use Rattle.pixel.specs.declared.Way.{Way}
 use Rattle.pixel.specs.declared.Way.the-variants.{Reverse}
 use Rattle.pixel.proofs.ReadyLaws.{ready}
-use Rattle.picture.proofs.Accepted.{none-beyond}
+use Rattle.picture.proofs.Accepted.{inside-exactly}
 use Rattle.corkplover.specs.Admit.{pixelPicture, topOf, badPixel, badOne, admitted, admittedOne}
 use Rattle.corkplover.specs.Answers.{pixelAnswer, reading, levelsAnswer}
 use Rattle.corkplover.specs.declared.spot.Reading.the-variants as meter
@@ -34,7 +34,7 @@ use Rattle.corkplover.specs.declared.one_pixel.PixelAnswer.the-variants.{Conver
 -- samples within depth are not bad
 pub no-bad : (w : Way) (d : Depths) (p : Pixel) → InsideSource w d p → badPixel w d p ≡ found.Nothing
 no-bad w d p h =
-    none-beyond w d (pixelPicture p)
+    inside-exactly w d (pixelPicture p) .1
     (λ j i a b.
     let ej : j ≡ 0 = omega arith in
     let ei : i ≡ 0 = omega arith in
@@ -73,8 +73,8 @@ module _ (s : Setting) (e : refusalOf call.Meter s ≡ 0) where
       → levelOf k (s .«ycc_full») (depths s .luma) (depths s .chroma) v ≡ nearestLevel k (served s) v
   level-is k v h =
       let r = ready call.Meter s e in
-      let small = top-small k (depths s) (r .luma) (r .chroma) in
-      level-rounded-once k (s .«ycc_full») (depths s .luma) (depths s .chroma) (r .luma) (r .chroma) v (omega arith)
+      let small = top-small k (depths s) (r .three .luma) (r .three .chroma) in
+      level-rounded-once k (s .«ycc_full») (depths s .luma) (depths s .chroma) (r .three .luma) (r .three .chroma) v (omega arith)
 
   pub reading-accepted : (k : SampleKind) (v : ℕ) → v ≤ topOf k (depths s) → reading k s v ≡ meter.Level (nearestLevel k (served s) v)
   unfolding reading admittedOne judged

@@ -1,6 +1,6 @@
 -- Every field of a packed answer comes out again.
-use mathlib.Core.Path.{_≡_, sym, ap, _∙_}
-use Prim.Native.Nat.{ℕ, _+_, _*_, _/_, _%_, _<_}
+use mathlib.Core.Path.{_≡_}
+use Prim.Native.Nat.{ℕ, _<_}
 use native.Mathlib.Omega.{arith}
 use Rattle.corkplover.specs.Packing.{packed, numberIn, secondIn, firstIn, middleIn, lastIn}
 

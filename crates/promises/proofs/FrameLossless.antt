@@ -1,31 +1,29 @@
 -- Demand 3 on whole pictures, over settings that the image check does not refuse: frames are one-to-one, a frame comes back, and the image
 -- check says yes exactly if some RGB picture within depth converts to the given one. The pixels' own theorems, row by row.
 use mathlib.Core.Path.{_≡_, refl, sym, ap, _∙_, subst}
-use mathlib.Core.Bool.{Bool, true, false, not}
+use mathlib.Core.Bool.{Bool, true, false}
 use mathlib.Core.List.{[], _∷_}
 use Prim.Native.Nat.{ℕ, _<_}
 use native.Mathlib.Omega.{arith}
 use Rattle.sample.specs.Depth.{InsideYCC}
 use Rattle.sample.specs.declared.Pixel.{Pixel}
 use Rattle.refusal.specs.Table.{row, first}
-use Rattle.refusal.proofs.TableLaws.{neither}
 use Rattle.plane.specs.Plane.{planeOf, sampleAt}
 use Rattle.plane.specs.Sizes.{sizeRefusal, ServedSide}
 use Rattle.plane.specs.declared.size.Side.{Side}
 use Rattle.plane.proofs.PlaneTheorems.{plane-same}
 use Rattle.plane.proofs.SizeTheorems.{refused-0}
-use Rattle.setting.specs.Refusals.{family, depths, served, codeRows, depthRows, refusalOf}
-use Rattle.setting.specs.Matrix.{matrixOf}
+use Rattle.setting.specs.Refusals.{depths, served, refusalOf}
 use Rattle.setting.specs.declared.Call.the-variants as call
 use Rattle.setting.specs.declared.Setting.{Setting}
-use Rattle.setting.proofs.RefusalLaws.{in-turn}
+use Rattle.setting.proofs.RefusalLaws.{in-turn, groups}
 use Rattle.pixel.specs.Pixel.{callOf, convert}
 use Rattle.pixel.specs.declared.Way.{Way}
 use Rattle.pixel.specs.declared.Way.the-variants.{Forward, Reverse}
 use Rattle.pixel.proofs.ReadyLaws.{ready}
 use Rattle.pixel.proofs.PixelTheorems.{forward-inside}
 use Rattle.picture.specs.Picture.{Picture, picture, sideOfPicture, pixelOf, EveryPixel}
-use Rattle.picture.proofs.Accepted.{Accepted, sides-served, pixels-inside, none-beyond}
+use Rattle.picture.proofs.Accepted.{Accepted, sides-served, pixels-inside, inside-exactly}
 use Rattle.row.specs.Row.{sampleOf}
 use Rattle.frame.specs.Frame.{frameAnswer, lengthOf, outPlane}
 use Rattle.frame.specs.declared.FrameAnswer.the-variants.{Done}
@@ -43,15 +41,9 @@ without-11 true y z e = absurd (omega arith)
 without-11 false true z e = absurd (omega arith)
 without-11 false false z e = refl
 
-groups : (s : Setting) → refusalOf call.ImageCheck s ≡ 0
-    → (first (codeRows (matrixOf (s .matrix)) (s .primaries) (s .transfer)) ≡ 0) × (first (depthRows call.ImageCheck (family s) s) ≡ 0)
-groups s e =
-    neither (first (codeRows (matrixOf (s .matrix)) (s .primaries) (s .transfer))) (first (depthRows call.ImageCheck (family s) s))
-    (sym (in-turn call.ImageCheck s) ∙ e)
-
 pub converts-too : (w : Way) (s : Setting) → refusalOf call.ImageCheck s ≡ 0 → refusalOf (callOf w) s ≡ 0
-converts-too Forward s e = in-turn call.Forward s ∙ rw (groups s e .0, without-11 _ _ _ (groups s e .1))
-converts-too Reverse s e = in-turn call.Reverse s ∙ rw (groups s e .0, without-11 _ _ _ (groups s e .1))
+converts-too Forward s e = in-turn call.Forward s ∙ rw (groups call.ImageCheck s e .0, without-11 _ _ _ (groups call.ImageCheck s e .1))
+converts-too Reverse s e = in-turn call.Reverse s ∙ rw (groups call.ImageCheck s e .0, without-11 _ _ _ (groups call.ImageCheck s e .1))
 
 module _ (s : Setting) (e : refusalOf call.ImageCheck s ≡ 0) where
   -- ---- frames are one-to-one: pictures with equal conversions are equal
@@ -117,7 +109,7 @@ module _ (s : Setting) (e : refusalOf call.ImageCheck s ≡ 0) where
     pub trip-done : frameAnswer Reverse s sent d ≡ Done
     trip-done =
         frame-done Reverse s sent d .1
-        (record { setting = converts-too Reverse s e; sizes = sent-sizes; samples = none-beyond Reverse (depths s) sent sent-inside })
+        (record { setting = converts-too Reverse s e; sizes = sent-sizes; samples = inside-exactly Reverse (depths s) sent .1 sent-inside })
 
     back : (j i : ℕ) → j < a .height → i < a .width → convert Reverse (served s) (pixelOf sent j i) ≡ pixelOf a j i
     back j i x y = ap (convert Reverse (served s)) (sent-pixel j i x y) ∙ pixel-trip s e (pixelOf a j i) (pixels-inside _ _ _ _ _ taken j i x y)

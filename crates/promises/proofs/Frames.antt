@@ -1,6 +1,7 @@
 -- Demands 1 and 2 on whole pictures: what a frame call leaves in each element of its output planes, and that this and every answer depend
 -- on the setting, the sizes, the lengths of the planes and the samples inside the picture alone.
 use mathlib.Core.Path.{_≡_, refl, ap, _∙_}
+use mathlib.Core.Bool.{true≢false}
 use mathlib.Core.List.{List, [], _∷_}
 use mathlib.Core.Logic.{_↔_}
 use Prim.Native.Nat.{ℕ, zero, suc, _+_, _*_, _-_, _≤_, _<_}
@@ -30,7 +31,7 @@ use Rattle.picture.proofs.Accepted.{Accepted, accepted-of, of-accepted, sides-s
 use Rattle.row.specs.Row.{sampleOf}
 use Rattle.frame.specs.Frame.{frameVerdict, answerBy, frameAnswer, convertedPlane, planeBy, lengthOf, outPlane}
 use Rattle.frame.specs.declared.FrameAnswer.the-variants.{Done, Refused}
-use Rattle.frame.proofs.FrameLaws.{plane-done, refused, plane-refused}
+use Rattle.frame.proofs.FrameLaws.{plane-done, plane-refused}
 use Rattle.image.specs.Image.{sourceless, firstSourceless, answerFound, imageAnswer}
 use Rattle.image.specs.Image as image
 
@@ -43,11 +44,11 @@ record ServedBy (v : Verdict) : Type 0 where
 
 done-served : (v : Verdict) → answerBy v ≡ Done → ServedBy v
 done-served (verdict.Served x) e = record { by = x; is = refl }
-done-served (verdict.Refused r) e = absurd (let z : _≡_ {A = ℕ} 0 1 = cc in omega arith)
+done-served (verdict.Refused r) e = absurd (true≢false cc)
 
-refusal-refused : (v : Verdict) (r : Refusal) → answerBy v ≡ Refused r → v ≡ verdict.Refused r
-refusal-refused (verdict.Served x) r e = absurd (let z : _≡_ {A = ℕ} 0 1 = cc in omega arith)
-refusal-refused (verdict.Refused q) r e = let f : q ≡ r = cc in ap verdict.Refused f
+pub frame-refused : (v : Verdict) (r : Refusal) → answerBy v ≡ Refused r → v ≡ verdict.Refused r
+frame-refused (verdict.Served x) r e = absurd (true≢false cc)
+frame-refused (verdict.Refused q) r e = let f : q ≡ r = cc in ap verdict.Refused f
 
 -- an element inside the picture is an element of the plane
 pub index-inside : (width height stride j i : ℕ) → j < height → i < width → j * stride + i < needed width height stride
@@ -75,7 +76,7 @@ module _ (w : Way) (s : Setting) (a : Picture) (b : Side) where
   pub refused-zero : (r : Refusal) → frameAnswer w s a b ≡ Refused r → (k n : ℕ) → n < lengthOf k b → getD (outPlane k w s a b) n 0 ≡ 0
   unfolding frameAnswer
   refused-zero r e k n h =
-      ap (λ p. getD p n 0) (plane-refused w s a b r (refusal-refused (frameVerdict w s a b) r e) k) ∙ tab-at (lengthOf k b) _ n h
+      ap (λ p. getD p n 0) (plane-refused w s a b r (frame-refused (frameVerdict w s a b) r e) k) ∙ tab-at (lengthOf k b) _ n h
 
   -- an accepted one writes the converted picture
   module _ (e : frameAnswer w s a b ≡ Done) where

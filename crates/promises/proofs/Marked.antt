@@ -16,7 +16,6 @@ use Rattle.setting.specs.Agreement.{depthsServed}
 use Rattle.setting.specs.Refusals.{refusalOf, judged}
 use Rattle.setting.specs.declared.Setting.{Setting}
 use Rattle.pixel.specs.Pixel.{convert}
-use Rattle.pixel.specs.declared.Way.{Way}
 use Rattle.pixel.specs.declared.Way.the-variants.{Forward, Reverse}
 use Rattle.corkplover.specs.Admit.{admitted}
 use Rattle.corkplover.specs.Answers.{pixelAnswer}

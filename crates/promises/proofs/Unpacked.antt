@@ -169,7 +169,7 @@ module _ (s : Setting) (p : Pixel) where
       let r = ready call.Forward s e in
       let i = forward-inside (served s) p r h in
       rw (accepted Forward s p e h)
-      (samples-out (convert Forward (served s) p) (below _ _ (r .luma) (i .in0)) (below _ _ (r .chroma) (i .in1)) (below _ _ (r .chroma) (i .in2)))
+      (samples-out (convert Forward (served s) p) (below _ _ (r .three .luma) (i .in0)) (below _ _ (r .three .chroma) (i .in1)) (below _ _ (r .three .chroma) (i .in2)))
 
   pub reverse-samples : refusalOf call.Reverse s ≡ 0 → InsideYCC (depths s) p
       → let q = convert Reverse (served s) p in
@@ -179,4 +179,4 @@ module _ (s : Setting) (p : Pixel) where
       let r = ready call.Reverse s e in
       let i = reverse-inside (served s) p r h in
       rw (accepted Reverse s p e h)
-      (samples-out (convert Reverse (served s) p) (below _ _ (r .rgb) (i .in0)) (below _ _ (r .rgb) (i .in1)) (below _ _ (r .rgb) (i .in2)))
+      (samples-out (convert Reverse (served s) p) (below _ _ (r .three .rgb) (i .in0)) (below _ _ (r .three .rgb) (i .in1)) (below _ _ (r .three .rgb) (i .in2)))

@@ -1,6 +1,6 @@
 -- Wrong boxes that no contract allows, each at a pixel or a code where it gives itself away.
-use mathlib.Core.Path.{_≡_, refl, sym, ap, _∙_}
-use mathlib.Core.Bool.{Bool, true, false}
+use mathlib.Core.Path.{_≡_, refl, ap}
+use mathlib.Core.Bool.{true, true≢false}
 use mathlib.Core.List.{List, [], _∷_}
 use Prim.Native.Nat.{ℕ}
 use native.Mathlib.Omega.{arith}
@@ -26,7 +26,7 @@ use Rattle.pixel.specs.Pixel.{convert}
 use Rattle.pixel.specs.Source.{hasSource}
 use Rattle.corkplover.specs.declared.one_pixel.PixelAnswer.{PixelAnswer}
 use Rattle.corkplover.specs.declared.one_pixel.PixelAnswer.the-variants.{Converted, Refused}
-use Rattle.promises.proofs.Marked.{with, pixel, is, answers, table, marked}
+use Rattle.promises.proofs.Marked.{with, pixel, is, marked}
 
 -- labels at codes on both sides of each end: no constant answer, and no end one off
 abbrev labels : (ℕ → ℕ) → List ℕ → List ℕ
@@ -60,7 +60,7 @@ apart : {x : PixelAnswer} {p q : Pixel} → x ≡ Converted p → x ≡ Converte
 apart {x} {p} {q} e f = let g : p ≡ q = cc in ap (λ r. r .p0) g
 
 served : {x : PixelAnswer} {p : Pixel} {r : Refusal} → x ≡ Converted p → x ≡ Refused r → ⊥
-served e f = let z : _≡_ {A = ℕ} 0 1 = cc in omega arith
+served e f = true≢false cc
 
 -- a box that refuses everything
 pub refuses-everything : (r : Refusal) → pixelAnswer Forward (with 8 8 8 9 true true) (pixel 255 0 0) ≡ Refused r → ⊥

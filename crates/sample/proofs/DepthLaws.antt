@@ -1,11 +1,11 @@
 -- Laws of depths: the test and the fact, and the powers that follow from a depth.
-use mathlib.Core.Path.{_≡_, refl, ap, _∙_}
-use mathlib.Core.Bool.{Bool, true, false, _&&_, cond}
+use mathlib.Core.Path.{_≡_, ap, _∙_}
+use mathlib.Core.Bool.{Bool, true, false, true≢false, cond}
 use Prim.Native.Nat.{ℕ, _+_, _*_, _-_, _^_, _≤_, _<_}
 use native.Mathlib.Omega.{arith}
-use borrow.Author.Tests.{le-leb, lt-leb, leb-true}
+use borrow.Author.Tests.{le-leb, leb-true}
 use lib.Pow.{pow-pos, pow-add, pow-mono}
-use Rattle.sample.specs.Depth.{isDepth, Depth, areDepths, atMost}
+use Rattle.sample.specs.Depth.{isDepth, Depth, areDepths, ThreeDepths, atMost}
 use Rattle.sample.specs.declared.Depths.{Depths}
 use Rattle.sample.specs.declared.DepthsChecked.the-variants as checked
 use Rattle.sample.proofs.Picks.{both-true, le-and, cannot, chose-first, chose-second}
@@ -21,18 +21,12 @@ depth-of n e = let t = le-and _ _ _ e in record { least = t .0; most = leb-true 
 pub depth-no : {n : ℕ} → (Depth n → ⊥) → isDepth n ≡ false
 depth-no {n} f = cannot (isDepth n) (λ e. f (depth-of n e))
 
--- three depths
-pub record AllDepths (r y c : ℕ) : Type 0 where
-  pub rgb : Depth r
-  pub luma : Depth y
-  pub chroma : Depth c
-
-pub depths-of : (r y c : ℕ) → areDepths r y c ≡ true → AllDepths r y c
+pub depths-of : (d : Depths) → areDepths (d .rgb .0) (d .luma .0) (d .chroma .0) ≡ true → ThreeDepths d
 unfolding areDepths
-depths-of r y c e =
-    let t = both-true (isDepth r) _ e in
-    let u = both-true (isDepth y) _ (t .1) in
-    record { rgb = depth-of r (t .0); luma = depth-of y (u .0); chroma = depth-of c (u .1) }
+depths-of d e =
+    let t = both-true (isDepth (d .rgb .0)) _ e in
+    let u = both-true (isDepth (d .luma .0)) _ (t .1) in
+    record { rgb = depth-of _ (t .0); luma = depth-of _ (u .0); chroma = depth-of _ (u .1) }
 
 -- no depth above n
 pub record AtMost (n : ℕ) (d : Depths) : Type 0 where
@@ -76,9 +70,9 @@ powers d top h u =
 
 -- what a check of three depths tells
 pub told-outside : (b : Bool) (x : Depths) → cond b (checked.Depths x) checked.Outside ≡ checked.Outside → b ≡ false
-told-outside b x e = chose-second b _ _ _ e (λ f. let z : _≡_ {A = ℕ} 0 1 = cc in omega arith) .0
+told-outside b x e = chose-second b _ _ _ e (λ f. true≢false cc) .0
 
 pub told-depths : (b : Bool) (x d : Depths) → cond b (checked.Depths x) checked.Outside ≡ checked.Depths d → (b ≡ true) × (x ≡ d)
 told-depths b x d e =
-    let t = chose-first b _ _ _ e (λ f. let z : _≡_ {A = ℕ} 0 1 = cc in omega arith) in
+    let t = chose-first b _ _ _ e (λ f. true≢false cc) in
     (t .0, (let q = t .1 in cc))

@@ -1,6 +1,6 @@
 -- A depth is a number from 8 to 16; with a luma matrix it is at most 12. These three numbers stand here alone.
 use mathlib.Core.Path.{_≡_}
-use mathlib.Core.Bool.{Bool, true, false, _&&_, cond}
+use mathlib.Core.Bool.{Bool, _&&_, cond}
 use Prim.Native.Nat.{ℕ, _-_, _^_, _≤_, _<_}
 use lib.Dec.{leb}
 use Rattle.sample.specs.declared.RgbDepth.{RgbDepth}
@@ -61,6 +61,12 @@ chromaChecked n = cond (isDepth n) (chroma.Depth (chromaDepth n)) chroma.Outside
 -- whether all three are depths
 unfoldable pub areDepths : ℕ → ℕ → ℕ → Bool
 areDepths r y c = isDepth r && (isDepth y && isDepth c)
+
+-- the same as a fact
+pub record ThreeDepths (d : Depths) : Type 0 where
+  pub rgb : Depth (d .rgb .0)
+  pub luma : Depth (d .luma .0)
+  pub chroma : Depth (d .chroma .0)
 
 unfoldable pub depthsChecked : ℕ → ℕ → ℕ → DepthsChecked
 depthsChecked r y c = cond (areDepths r y c) (depths.Depths (depthsOf r y c)) depths.Outside

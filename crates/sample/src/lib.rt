@@ -1,6 +1,6 @@
 // What every crate above speaks of: depths of three kinds that cannot be taken for each other, and a pixel.
 ghost use mathlib.Core.Path.{_≡_};
-ghost use Prim.Native.Nat.{_^_, _≤_, _<_};
+ghost use Prim.Native.Nat.{_≤_, _<_};
 ghost use Rattle.sample.specs.Depth.{rgbChecked, lumaChecked, chromaChecked, depthsChecked, atMost, Power};
 
 // Three samples, by plane: R, G, B on one side and Y, Cb, Cr on the other.

@@ -1,19 +1,16 @@
 -- The refusal table, row by row: what the code has found out so far decides the first row that applies.
 use mathlib.Core.Path.{_≡_, refl, sym, ap, _∙_}
-use mathlib.Core.Bool.{Bool, true, false, cond}
+use mathlib.Core.Bool.{Bool, true, false}
 use Prim.Native.Nat.{ℕ}
-use native.Mathlib.Omega.{arith}
 use borrow.Author.Tests.{ne-eqb}
-use lib.Dec.{eqb}
-use Rattle.refusal.specs.Table.{first, orElse, Numbered, plain}
-use Rattle.refusal.proofs.TableLaws.{first-append}
+use Rattle.refusal.specs.Table.{first, orElse, plain}
+use Rattle.refusal.proofs.TableLaws.{first-append, neither}
 use Rattle.setting.specs.Label.{isReserved, primariesLabel, transferLabel}
 use Rattle.setting.specs.Matrix.{matrixOf}
 use Rattle.setting.specs.Refusals.{standing, family, codeRows, depthRows, refusalOf, judged}
 use Rattle.setting.specs.declared.Call.{Call}
 use Rattle.setting.specs.declared.Setting.{Setting}
 use Rattle.setting.specs.declared.label.Label.{Label}
-use Rattle.setting.specs.declared.matrix.Family.{Family}
 use Rattle.setting.specs.declared.matrix.Matrix.{Matrix}
 use Rattle.setting.specs.declared.matrix.Matrix.the-variants as matrix
 use Rattle.setting.specs.declared.verdict.Served.{Served}
@@ -52,10 +49,11 @@ pub in-turn : (call : Call) (s : Setting)
 unfolding refusalOf
 in-turn call s = first-append (codeRows (matrixOf (s .matrix)) (s .primaries) (s .transfer)) (depthRows call (family s) s) (refl, (refl, (refl, (refl, (refl, tt)))))
 
+-- where no row refuses, none of either group does
+pub groups : (call : Call) (s : Setting) → refusalOf call s ≡ 0
+    → (first (codeRows (matrixOf (s .matrix)) (s .primaries) (s .transfer)) ≡ 0) × (first (depthRows call (family s) s) ≡ 0)
+groups call s e = neither _ _ (sym (in-turn call s) ∙ e)
+
 pub judged-refused : (n : ℕ) (x : Served) → (n ≡ 0 → ⊥) → verdict.Refused (plain n) ≡ judged n x
 unfolding judged
 judged-refused n x h = rw (ne-eqb n 0 h)
-
-pub judged-served : (n : ℕ) (x : Served) → n ≡ 0 → verdict.Served x ≡ judged n x
-unfolding judged
-judged-served n x h = rw h

@@ -1,8 +1,7 @@
 -- Which depths and flags agree with a family of formulas, and which settings are lossless.
-use mathlib.Core.Bool.{Bool, true, false, cond, _&&_, _||_, not}
+use mathlib.Core.Bool.{Bool, true, false, _&&_, _||_, not}
 use Prim.Native.Nat.{ℕ, _+_}
 use lib.Dec.{eqb}
-use Rattle.levels.specs.declared.Weights.{Weights}
 use Rattle.sample.specs.Depth.{mostDepth, mostLumaMatrixDepth, areDepths, atMost, depthsOf}
 use Rattle.sample.specs.declared.Depths.{Depths}
 use Rattle.setting.specs.declared.matrix.Family.{Family}

@@ -3,7 +3,6 @@ use mathlib.Core.List.{List, [], _∷_}
 use Prim.Native.Nat.{ℕ}
 use lib.ListN.{getD}
 use Rattle.levels.specs.Paper.{weights}
-use Rattle.setting.specs.declared.matrix.Family.{Family}
 use Rattle.setting.specs.declared.matrix.Family.the-variants.{Identity, Luma, YCgCo, YCgCoR}
 use Rattle.setting.specs.declared.matrix.Matrix.{Matrix}
 use Rattle.setting.specs.declared.matrix.Matrix.the-variants.{Served, Unserved, Unspecified, Reserved}

@@ -1,5 +1,5 @@
 -- Rows 1 to 7 and 11 of the refusal table, in the order in which they are tested. This is the one place that gives them.
-use mathlib.Core.Bool.{Bool, true, false, cond, not}
+use mathlib.Core.Bool.{Bool, true, cond, not}
 use mathlib.Core.List.{List, [], _∷_, _++_}
 use Prim.Native.Nat.{ℕ}
 use lib.Dec.{eqb}

@@ -1,6 +1,5 @@
 // The matrix codes, sorted: which are served and by which formulas, and which depths and flags agree with them.
 ghost use mathlib.Core.Path.{_≡_};
-ghost use Prim.Native.Nat.{_+_, _≤_};
 ghost use Rattle.setting.specs.Matrix.{matrixOf};
 use levels::Weights;
 

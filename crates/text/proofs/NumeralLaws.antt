@@ -1,18 +1,16 @@
 -- A number is read digit by digit from the front: what was read stands for the digits that were passed.
-use mathlib.Core.Path.{_≡_, refl, sym, ap, _∙_}
-use mathlib.Core.Bool.{Bool, true, false, cond, _&&_}
-use mathlib.Core.List.{List, [], _∷_, _++_}
-use Prim.Native.Nat.{ℕ, zero, suc, _+_, _-_, _*_, _/_, _%_, _^_, _≤_, _<_}
-use native.Mathlib.Decide.{decLe, decLt}
-use native.Mathlib.Nat.{mod-eq-of-lt, pow-suc, one-le-pow, pow-le-pow-right}
+use mathlib.Core.Path.{_≡_, refl}
+use mathlib.Core.Bool.{Bool, true, false, true≢false, cond, _&&_}
+use mathlib.Core.List.{List, [], _∷_}
+use Prim.Native.Nat.{ℕ, _+_, _-_, _*_, _≤_, _<_}
+use native.Mathlib.Decide.{decLe}
 use native.Mathlib.Numerals.{add-one}
 use native.Mathlib.Omega.{arith}
 use borrow.Author.Tests.{lt-ltb, le-ltb, le-leb, lt-leb}
 use lib.Dec.{leb, ltb}
 use lib.ListN.{length, getD, drop, drop-of-length-le}
 use lib.Seq.{drop-cons}
-use Rattle.io.specs.Digits.{glyph, digits, Fewest}
-use Rattle.text.specs.Numerals.{valueOf, allDigits, numberOf, decimalOf}
+use Rattle.text.specs.Numerals.{valueOf, allDigits, numberOf}
 use Rattle.text.specs.declared.reading.Number.the-variants as number
 
 pub value-grows : (high : ℕ) (w : List ℕ) → high ≤ valueOf high w
@@ -73,54 +71,6 @@ module _ (w : List ℕ) (most : ℕ) where
   unfolding numberOf
   is-number v l d e h = rw (lt-ltb _ _ l, d, ← e, le-leb _ _ h)
 
--- the fewest decimal digits that hold a number are its digits
-single : (n k : ℕ) → n < 10 → (1 < suc k → 10 ^ k ≤ n) → digits 10 (suc k) n ≡ glyph n ∷ []
-single n zero h f = rw (mod-eq-of-lt h)
-single n (suc k) h f =
-    let p = pow-suc 10 k in
-    let o = one-le-pow k 10 (omega arith) in
-    let g = f (omega arith) in
-    absurd (omega arith)
-
-pub decimal-is : (most n k : ℕ) → k ≤ most → Fewest 10 1 n k → digits 10 k n ≡ decimalOf most n
-unfolding decimalOf
-decimal-is most n zero l f = absurd (omega (arith, f .0))
-decimal-is zero n (suc k) l f = absurd (omega arith)
-decimal-is (suc most) n (suc k) l f = go (decLt n 10) (decimal-is most (n / 10) k (omega arith))
-  where
-    low : 1 < suc k → 10 ^ k ≤ n
-    low h = let e : suc k - 1 ≡ k = omega arith in rw e at (f .2 h)
-
-    positive : (j : ℕ) → n < 10 ^ suc j → 10 ≤ n → 1 ≤ j
-    positive zero u h = absurd (omega arith)
-    positive (suc j) u h = omega arith
-
-    high : (j : ℕ) → 10 ^ j ≤ n → 1 < j → 10 ^ (j - 1) ≤ n / 10
-    high zero u g = absurd (omega arith)
-    high (suc j) u g =
-        let p = pow-suc 10 j in
-        let e : suc j - 1 ≡ j = omega arith in
-        rw e (omega arith)
-
-    rest-is : 10 ≤ n → Fewest 10 1 (n / 10) k
-    rest-is h =
-        let p = pow-suc 10 k in
-        let u = f .1 in
-        (positive k u h, omega arith, (λ g. high k (low (omega arith)) g))
-
-    go : Dec (n < 10) → (Fewest 10 1 (n / 10) k → digits 10 k (n / 10) ≡ decimalOf most (n / 10))
-        → digits 10 (suc k) n ≡ cond (ltb n 10) (glyph n ∷ []) (decimalOf most (n / 10) ++ (glyph (n % 10) ∷ []))
-    go (yes h) rest = single n k h low ∙ ap (λ (t : Bool). cond t (glyph n ∷ []) (decimalOf most (n / 10) ++ (glyph (n % 10) ∷ []))) (sym (lt-ltb n 10 h))
-    go (no h) rest = rw (le-ltb n 10 (omega arith)) (ap (λ (l : List ℕ). l ++ (glyph (n % 10) ∷ [])) (rest (rest-is (omega arith))))
-
--- no more digits than hold the number
-pub fewest-most : (b least most n k : ℕ) → 0 < b → least ≤ most → n < b ^ most → Fewest b least n k → k ≤ most
-fewest-most b least most n k p l h f = go (decLt most k)
-  where
-    go : Dec (most < k) → k ≤ most
-    go (yes g) = absurd (omega (arith, f .2 (omega arith), pow-le-pow-right {n = b} p {i = most} {j = k - 1} (omega arith)))
-    go (no g) = omega arith
-
 -- a word that was read as a number is no larger than asked
 pub number-most : (w : List ℕ) (most v : ℕ) → numberOf w most ≡ number.Value v → v ≤ most
 unfolding numberOf
@@ -129,6 +79,6 @@ number-most w most v e = go (ltb 0 (length w)) (allDigits w) (decLe (valueOf 0 w
     go : (t u : Bool) → Dec (valueOf 0 w ≤ most)
         → cond (t && (u && leb (valueOf 0 w) most)) (number.Value (valueOf 0 w)) number.Nothing ≡ number.Value v → v ≤ most
     go true true (yes h) e = let f : valueOf 0 w ≡ v = (let g = rw (le-leb _ _ h) at e in cc) in omega arith
-    go true true (no h) e = absurd (let f = rw (lt-leb (valueOf 0 w) most (omega arith)) at e in let z : _≡_ {A = ℕ} 0 1 = cc in omega arith)
-    go true false d e = absurd (let z : _≡_ {A = ℕ} 0 1 = cc in omega arith)
-    go false u d e = absurd (let z : _≡_ {A = ℕ} 0 1 = cc in omega arith)
+    go true true (no h) e = absurd (let f = rw (lt-leb (valueOf 0 w) most (omega arith)) at e in true≢false cc)
+    go true false d e = absurd (true≢false cc)
+    go false u d e = absurd (true≢false cc)

@@ -1,17 +1,17 @@
 -- Where a word ends, the rest of a text begins: so words found one after the other are the words of the whole.
-use mathlib.Core.Path.{_≡_, refl, sym, ap, _∙_, subst}
-use mathlib.Core.Bool.{Bool, true, false, cond, _&&_}
+use mathlib.Core.Path.{_≡_, refl, sym, ap, _∙_}
+use mathlib.Core.Bool.{Bool, true, false, true≢false, cond, _&&_}
 use mathlib.Core.List.{List, [], _∷_}
-use Prim.Native.Nat.{ℕ, zero, suc, _+_, _-_, _≤_, _<_}
+use Prim.Native.Nat.{ℕ, suc, _+_, _-_, _≤_, _<_}
 use native.Mathlib.Decide.{decLt}
 use native.Mathlib.Nat.{add-zero, sub-self}
 use native.Mathlib.Numerals.{add-one}
 use native.Mathlib.Omega.{arith}
 use borrow.Author.Tests.{eq-eqb, ne-eqb, eqb-true, lt-ltb, le-ltb}
-use lib.Dec.{eqb, ltb, eqb-refl}
+use lib.Dec.{eqb}
 use lib.ListN.{length, getD, take, drop, length-drop, drop-of-length-le, List·getD-eq-default}
 use lib.Seq.{drop-cons, drop-drop, getD-drop}
-use Rattle.text.specs.Words.{begun, split, wordOf, before, endOf, sameWord, indexIn, Spans}
+use Rattle.text.specs.Words.{begun, split, before, endOf, sameWord, indexIn, Spans}
 
 -- the bytes before the first gap, one byte at a time
 before-gap : (gap b : ℕ) (s : List ℕ) → b ≡ gap → before gap (b ∷ s) ≡ 0
@@ -125,13 +125,13 @@ same-self (b ∷ w) = rw (eq-eqb b b refl, same-self w)
 same-means : (v w : List ℕ) → sameWord v w ≡ true → v ≡ w
 unfolding sameWord
 same-means [] [] e = refl
-same-means [] (c ∷ w) e = absurd (let z : _≡_ {A = ℕ} 0 1 = cc in omega arith)
-same-means (b ∷ v) [] e = absurd (let z : _≡_ {A = ℕ} 0 1 = cc in omega arith)
+same-means [] (c ∷ w) e = absurd (true≢false cc)
+same-means (b ∷ v) [] e = absurd (true≢false cc)
 same-means (b ∷ v) (c ∷ w) e = go (eqb b c) refl e (same-means v w)
   where
     go : (t : Bool) → eqb b c ≡ t → t && sameWord v w ≡ true → (sameWord v w ≡ true → v ≡ w) → b ∷ v ≡ c ∷ w
     go true f e rest = let p = eqb-true b c f in let q = rest e in cc
-    go false f e rest = absurd (let z : _≡_ {A = ℕ} 0 1 = cc in omega arith)
+    go false f e rest = absurd (true≢false cc)
 
 pub same-is : (v w : List ℕ) (t : Bool) → (t ≡ true → v ≡ w) → (v ≡ w → t ≡ true) → t ≡ sameWord v w
 same-is v w true f g = rw (← f refl) (sym (same-self v))

@@ -4,7 +4,7 @@ use mathlib.Core.List.{List, [], _∷_, _++_}
 use Prim.Native.Nat.{ℕ, zero, suc, _+_, _≤_, _<_}
 use native.Mathlib.Numerals.{add-one}
 use native.Mathlib.Omega.{arith}
-use lib.ListN.{length, set, take}
+use lib.ListN.{length, set}
 use Rattle.text.specs.Writing.{Page, page, behind, wrote, Wrote}
 
 both : (o : List ℕ) (at : ℕ) (a b : List ℕ) → wrote (wrote o at a .bytes) (wrote o at a .next) b ≡ wrote o at (a ++ b)
@@ -47,24 +47,13 @@ wrote-byte (x ∷ o) (suc at) b h = ap (behind x) (wrote-byte o at b (omega arit
 pub byte : (o : List ℕ) (at b : ℕ) → at < length o → Wrote o at (b ∷ []) (set o at b) (at + 1)
 byte o at b h = record { is = rw add-one (wrote-byte o at b h) }
 
--- a buffer keeps its length, and a position within it stays within it
-pub kept : (o : List ℕ) (at : ℕ) (t : List ℕ) → length (wrote o at t .bytes) ≡ length o
+-- a position inside the buffer stays inside it
+next-inside : (o : List ℕ) (at : ℕ) (t : List ℕ) → at ≤ length o → wrote o at t .next ≤ length o
 unfolding wrote
-kept [] at t = refl
-kept (x ∷ o) zero [] = refl
-kept (x ∷ o) zero (b ∷ t) = ap suc (kept o zero t)
-kept (x ∷ o) (suc at) t = ap suc (kept o at t)
+next-inside [] at t h = h
+next-inside (x ∷ o) zero [] h = omega arith
+next-inside (x ∷ o) zero (b ∷ t) h = let k = next-inside o zero t (omega arith) in omega arith
+next-inside (x ∷ o) (suc at) t h = let k = next-inside o at t (omega arith) in omega arith
 
-pub inside : (o : List ℕ) (at : ℕ) (t : List ℕ) → at ≤ length o → wrote o at t .next ≤ length o
-unfolding wrote
-inside [] at t h = h
-inside (x ∷ o) zero [] h = omega arith
-inside (x ∷ o) zero (b ∷ t) h = let k = inside o zero t (omega arith) in omega arith
-inside (x ∷ o) (suc at) t h = let k = inside o at t (omega arith) in omega arith
-
--- at the start of a buffer stands the text, cut where the buffer ends
-pub front : (o t : List ℕ) → take (wrote o zero t .next) (wrote o zero t .bytes) ≡ take (length o) t
-unfolding wrote
-front [] t = refl
-front (x ∷ o) [] = refl
-front (x ∷ o) (b ∷ t) = ap (λ l. b ∷ l) (front o t)
+pub inside : {o t n : List ℕ} {at p : ℕ} → Wrote o at t n p → at ≤ length o → p ≤ length o
+inside {o} {t} {n} {at} w h = subst (λ (x : Page). x .next ≤ length o) (sym (w .is)) (next-inside o at t h)

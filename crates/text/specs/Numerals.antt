@@ -1,10 +1,9 @@
 -- Numbers as their digits.
-use mathlib.Core.Bool.{Bool, true, false, cond, _&&_}
-use mathlib.Core.List.{List, [], _∷_, _++_}
-use Prim.Native.Nat.{ℕ, zero, suc, _+_, _-_, _*_, _/_, _%_}
+use mathlib.Core.Bool.{Bool, true, cond, _&&_}
+use mathlib.Core.List.{List, [], _∷_}
+use Prim.Native.Nat.{ℕ, _+_, _-_, _*_}
 use lib.Dec.{leb, ltb}
-use lib.ListN.{length, replicate}
-use Rattle.io.specs.Digits.{glyph, digits}
+use lib.ListN.{length}
 use Rattle.text.specs.declared.reading.Number.{Number}
 use Rattle.text.specs.declared.reading.Number.the-variants as number
 
@@ -21,16 +20,3 @@ allDigits (b ∷ w) = (leb 48 b && leb b 57) && allDigits w
 unfoldable pub numberOf : List ℕ → ℕ → Number
 numberOf w most =
     cond (ltb 0 (length w) && (allDigits w && leb (valueOf 0 w) most)) (number.Value (valueOf 0 w)) number.Nothing
-
--- the digits of a number of at most this many
-unfoldable pub decimalOf : ℕ → ℕ → List ℕ
-decimalOf zero n = []
-decimalOf (suc most) n = cond (ltb n 10) (glyph n ∷ []) (decimalOf most (n / 10) ++ (glyph (n % 10) ∷ []))
-
--- 20 digits hold every number of 64 bits
-abbrev pub decimal : ℕ → List ℕ
-decimal n = decimalOf 20 n
-
--- eight hexadecimal digits
-abbrev pub hex8 : ℕ → List ℕ
-hex8 n = digits 16 8 n

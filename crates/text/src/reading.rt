@@ -1,11 +1,9 @@
 // Reading a text that is split into words by one byte, the gap: a blank between words, or a line's end between lines.
 ghost use mathlib.Core.Path.{_≡_};
-ghost use Prim.Native.Nat.{_≤_};
 ghost use lib.ListN.{length};
 ghost use lib.Dec.{ltb};
 ghost use Rattle.text.specs.Words.{split, wordOf, endOf, sameWord, indexIn, Spans};
 ghost use Rattle.text.specs.Numerals.{numberOf};
-ghost use Rattle.text.specs.Writing.{Wrote};
 
 // A decimal number that isn't too large, or anything else.
 pub enum Number {
@@ -123,11 +121,4 @@ pub fn place_at(s: &[u8], gap: u8, n: u8, names: &[u8]) -> usize
     ensures { λ r. ⌜ r ≡ indexIn (wordOf gap (now (s .entry)) n) (split 32 (now (names .entry))) ⌝ }
 {
     place_among(names, word_at(s, gap, n))
-}
-
-// Writes word n into a buffer.
-pub fn put_word(out: &mut [u8], at: usize, s: &[u8], gap: u8, n: u8) -> usize
-    ensures { λ r. ⌜ Wrote (now (out .entry)) at (wordOf gap (now (s .entry)) n) (now (out .exit)) r ⌝ }
-{
-    crate::writing::put(out, at, word_at(s, gap, n))
 }

@@ -2,12 +2,12 @@
 use mathlib.Core.Path.{_≡_, refl, sym, ap, _∙_, subst}
 use Prim.Native.Nat.{ℕ, zero, suc, _+_, _*_, _-_, _/_, _≤_, _<_, _^_, min}
 use native.Mathlib.Omega.{arith}
-use lib.IntN.{ℤ, pos, negsuc, negℤ, natAbs, _-ℤ_}
+use lib.IntN.{ℤ, pos, negsuc, negℤ, natAbs}
 use lib.Signed.{mag}
 use mir.Syntax.{Width}
 use mir.Val.{SFits, hbits, toZ, ofZ}
 use mir.ValLaws.{toZ-ofZ}
-use Rattle.whole.specs.Whole.{half, clip, round, sample}
+use Rattle.whole.specs.Whole.{clip, round, sample}
 use Rattle.whole.proofs.Difference.{Holds, Parts}
 
 -- Two whole numbers are equal where a + d is c + b, and the other way round.
@@ -34,9 +34,6 @@ is-pos {z} n r e = equal (pos n) z n 0 (r .plus) (r .minus) (omega arith) (r .ho
 
 is-negsuc : {z : ℤ} (n : ℕ) (r : Parts z) → r .minus ≡ r .plus + suc n → negsuc n ≡ z
 is-negsuc {z} n r e = equal (negsuc n) z 0 (suc n) (r .plus) (r .minus) (omega arith) (r .holds) (omega arith)
-
-pub pos-one : {m n : ℕ} → pos m ≡ pos n → m ≡ n
-pos-one e = cc
 
 -- a sample for a whole number that is not negative
 pub is-sample : {z : ℤ} (n : ℕ) (r : Parts z) → n + r .minus ≡ r .plus → n ≡ sample z

@@ -2,8 +2,8 @@
 pub mod quotient;
 
 ghost use mathlib.Core.Path.{_≡_};
-ghost use Prim.Native.Nat.{_+_, _*_, _-_, _≤_, _<_, _^_, min};
-ghost use lib.IntN.{ℤ, pos, _+ℤ_, _-ℤ_};
+ghost use Prim.Native.Nat.{_+_, _*_, _-_, _≤_, _<_, min};
+ghost use lib.IntN.{pos, _+ℤ_, _-ℤ_};
 ghost use Rattle.whole.specs.Whole.{round, clip, Rounds};
 ghost use Rattle.whole.specs.Quotient.{Divides};
 use quotient::Divisor;

@@ -1,7 +1,7 @@
 // Quotients by a number that is known long before what it divides, with no division: a multiplication by a number that stands
 // for it and a shift come close from below, and what is left over says how far below.
 ghost use mathlib.Core.Path.{_≡_};
-ghost use Prim.Native.Nat.{_/_, _^_, _≤_, _<_, min};
+ghost use Prim.Native.Nat.{_/_, _≤_, _<_, min};
 ghost use Rattle.whole.specs.Quotient.{Divides};
 
 // A divisor, and 2^48 over its leading bits: `shift` says how many others there are.

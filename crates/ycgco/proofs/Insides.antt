@@ -1,12 +1,12 @@
 -- Every sample that a formula gives lies within the depth of its plane.
-use mathlib.Core.Path.{_≡_, subst, sym, ap}
+use mathlib.Core.Path.{subst, sym}
 use Prim.Native.Nat.{ℕ, _+_, _-_, _*_, _/_, _^_, _≤_, _<_}
 use native.Mathlib.Omega.{arith}
 use lib.IntN.{ℤ, pos}
 use lib.Pow.{pow-pos, pow-mono}
 use Rattle.whole.specs.Whole.{Clip, sample}
 use Rattle.whole.proofs.Closers.{clip-most}
-use Rattle.sample.specs.Depth.{Inside, InsideRGB, InsideYCC}
+use Rattle.sample.specs.Depth.{InsideRGB, InsideYCC}
 use Rattle.sample.specs.declared.Depths.{Depths}
 use Rattle.sample.specs.declared.Pixel.{Pixel}
 use Rattle.ycgco.specs.YCgCo.{losslessReverse, lossyForward, lossyReverse}

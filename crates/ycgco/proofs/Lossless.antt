@@ -1,14 +1,14 @@
 -- The lossless formulas lose nothing: every sample fits its plane, and reverse after forward is the pixel.
 -- Forward gives y = (g + t) / 2, cb = g + H − t and cr = r + H − b with t = (r + b) / 2, and H is above every sample.
-use mathlib.Core.Path.{_≡_, refl, sym, ap, _∙_, subst}
-use Prim.Native.Nat.{ℕ, _+_, _-_, _*_, _/_, _^_, _≤_, _<_}
+use mathlib.Core.Path.{_≡_, ap, _∙_, subst}
+use Prim.Native.Nat.{ℕ, _+_, _-_, _/_, _^_, _≤_}
 use native.Mathlib.Omega.{arith}
-use lib.IntN.{ℤ, pos, _+ℤ_, _-ℤ_}
+use lib.IntN.{pos, _+ℤ_, _-ℤ_}
 use lib.Pow.{pow-mono}
 use Rattle.whole.specs.Whole.{half, clip}
 use Rattle.whole.proofs.Difference.{parts}
 use Rattle.whole.proofs.Closers.{is-pos, clip-within}
-use Rattle.sample.specs.Depth.{Inside, InsideRGB, InsideYCC}
+use Rattle.sample.specs.Depth.{InsideRGB, InsideYCC}
 use Rattle.sample.specs.declared.Depths.{Depths}
 use Rattle.sample.specs.declared.Pixel.{Pixel}
 use Rattle.sample.proofs.DepthLaws.{doubles}

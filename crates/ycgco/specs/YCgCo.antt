@@ -1,5 +1,4 @@
 -- YCgCo over the whole numbers. Equation numbers are those of H.273.
-use mathlib.Core.Path.{_≡_}
 use Prim.Native.Nat.{ℕ, _+_, _≤_}
 use lib.IntN.{ℤ, pos, _+ℤ_, _-ℤ_, _*ℤ_}
 use Rattle.whole.specs.Whole.{half, round, Clip, sample}

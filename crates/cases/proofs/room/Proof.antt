@@ -1,7 +1,7 @@
 -- `cases::room` meets its contract: a repeat is as long as it says.
-use mathlib.Core.Path.{_≡_, sym}
+use mathlib.Core.Path.{sym}
 use Prim.Native.Nat.{ℕ}
-use lib.ListN.{length, replicate, length-replicate}
+use lib.ListN.{length-replicate}
 use Rattle.cases.proofs.room.Statement.{statement}
 use Rattle.cases.proofs.room.Tie as tie
 

@@ -1,6 +1,5 @@
--- `cork::all_words` ends at the last word, or at the twentieth.
-use Prim.Native.Nat.{_≤_, _<_, _-_}
-use native.Mathlib.Omega.{arith}
+-- `cork::all_words` ends at the last word, or at the twentieth, and never leaves the buffer.
+use Prim.Native.Nat.{_-_, _≤_}
 use borrow.Author.Needs.{needs}
 use mathlib.Core.Path.{_≡_}
 use lib.ListN.{length}
@@ -8,7 +7,7 @@ use Rattle.cork.proofs.all_words.Statement.{statement}
 use Rattle.cork.proofs.all_words.Tie as tie
 
 abbrev Inv-loop : tie.InvT-loop
-Inv-loop count words₀ at₀ i₀ words at i = length words ≡ length words₀
+Inv-loop count words₀ at₀ i₀ words at i = (at ≤ length words₀) × (length words ≡ length words₀)
 
 abbrev μ-loop : tie.MeasureT-loop
 μ-loop count words₀ at₀ i₀ words at i = count - i

@@ -36,9 +36,6 @@ on-words-requires c κs = search needs
 returns-2 : tie.Need-returns-2
 returns-2 c = search needs
 
-returns-3 : tie.Need-returns-3
-returns-3 c = search needs
-
 pub main-spec : {M : Type 1} → statement M
 main-spec =
     tie.close
@@ -52,5 +49,4 @@ main-spec =
     array-share-prefix-words
     slice-aggregate-on-words
     on-words-requires
-    returns-2
-    returns-3)
+    returns-2)

@@ -2,9 +2,7 @@
 use mathlib.Core.Path.{_≡_, sym, ap, _∙_, subst}
 use mathlib.Core.List.{[], _∷_}
 use lib.ListN.{length}
-use Rattle.setting.specs.Refusals.{served}
 use Rattle.setting.specs.declared.verdict.Served.{Served}
-use Rattle.setting.specs.declared.verdict.Verdict.the-variants as verdict
 use Rattle.plane.specs.declared.size.Side.{Side}
 use Rattle.pixel.specs.Pixel.{callOf, InsideSource}
 use Rattle.pixel.specs.Ready.{Ready}

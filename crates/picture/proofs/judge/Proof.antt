@@ -1,14 +1,13 @@
 -- `picture::judge` meets its contract: each group of rows is asked where those before it have refused nothing.
-use mathlib.Core.Path.{_≡_, sym, ap, _∙_, subst}
+use mathlib.Core.Path.{_≡_, sym, ap, _∙_}
 use mathlib.Core.List.{[], _∷_}
-use Rattle.setting.specs.Refusals.{served, refusalOf}
+use Rattle.setting.specs.Refusals.{served, refusalOf, verdictOf}
+use Rattle.setting.specs.declared.verdict.Verdict.the-variants as verdict
 use Rattle.plane.specs.Sizes.{sizeRefusal}
 use Rattle.plane.proofs.SizeTheorems as sizes
-use Rattle.pixel.specs.Ready.{Ready}
-use Rattle.pixel.proofs.ReadyLaws.{ready}
 use Rattle.picture.specs.Picture.{Picture, picture, sideOfPicture}
 use Rattle.picture.specs.Verdict.{beyondDepth, pastServed}
-use Rattle.picture.proofs.VerdictLaws.{told-served, three, by-setting, by-size, by-sample}
+use Rattle.picture.proofs.VerdictLaws.{told-served, verdict-ready, by-setting, by-size, by-sample}
 use borrow.Author.Needs.{needs}
 use Rattle.picture.proofs.judge.Statement.{statement}
 use Rattle.picture.proofs.judge.Tie as tie
@@ -21,8 +20,11 @@ lent c = picture (c .args .width) (c .args .height) (c .args .stride) (c .args .
 abbrev start : tie.After-known-told → tie.Start
 start c = c .before .before .before .before .before .before .before
 
+told-by : (c : tie.After-known-told) → verdictOf (start c .args .call) (start c .args .s) ≡ verdict.Served (c .before .verdict .given .0 .0)
+told-by c = sym (c .before .before .before .judge .ensures) ∙ c .before .verdict .given .1
+
 accepted : (c : tie.After-known-told) → (refusalOf (start c .args .call) (start c .args .s) ≡ 0) × (served (start c .args .s) ≡ c .before .verdict .given .0 .0)
-accepted c = told-served _ _ _ (sym (c .before .before .before .judge .ensures) ∙ c .before .verdict .given .1)
+accepted c = told-served _ _ _ (told-by c)
 
 -- past rows 8 and 9
 fits : (c : tie.Else1) → sizeRefusal (start (c .before .before) .args .width) (start (c .before .before) .args .height) (sideOfPicture (lent (start (c .before .before))) ∷ start (c .before .before) .args .other ∷ []) ≡ 0
@@ -60,7 +62,7 @@ beyond-depth-requires : tie.Need-beyond-depth-requires
 beyond-depth-requires c κs =
     let told = c .before .before .before in
     let side = sizes.served _ _ _ (fits (c .before)) .0 in
-    (three (subst Ready (accepted told .1) (ready (start told .args .call) (start told .args .s) (accepted told .0))), (side .sized, side .long))
+    (verdict-ready _ _ _ (told-by told) .three, (side .sized, side .long))
 
 past-requires : tie.Need-past-requires
 past-requires c κs = search needs

@@ -1,8 +1,5 @@
 -- `pixel::convert` meets its contract, family by family: what a setting that is not refused has is what each family asks.
-use mathlib.Core.Path.{_≡_, sym, ap, _∙_, subst}
-use native.Mathlib.Omega.{arith}
-use Rattle.levels.specs.Luma.{SamplesServed}
-use Rattle.ycgco.specs.YCgCo.{Roomy}
+use mathlib.Core.Path.{_≡_, ap, _∙_, subst}
 use Rattle.setting.specs.declared.matrix.Family.the-variants.{Luma}
 use Rattle.pixel.specs.Pixel.{preparedFor, preparedBy, convert}
 use Rattle.pixel.specs.Ready.{Agreed}
@@ -10,6 +7,7 @@ use Rattle.pixel.proofs.Facts.{small}
 use borrow.Author.Needs.{needs}
 use Rattle.pixel.proofs.convert.Statement.{statement}
 use Rattle.pixel.proofs.convert.Tie as tie
+use Rattle.pixel.proofs.PixelTheorems.{roomy-R}
 
 prepared-lines : (c : tie.After-known-told) → c .before .before .before .before .args .prepared ≡ preparedBy (c .before .before .before .before .args .way) (Luma (c .before .family .given .0 .0)) (c .before .before .before .before .args .s)
 unfolding preparedFor
@@ -28,7 +26,7 @@ luma-prepared-requires : tie.Need-luma-prepared-requires
 luma-prepared-requires c κs =
     let s = c .before .before .before .before in
     let k = subst (λ f. Agreed f (s .args .s)) (c .before .family .given .1) (s .pre .0 .agreed) in
-    (k, (prepared-lines c, small (s .args .way) (s .args .s .depths) (s .args .p) (k .rgb .most) (k .luma .most) (k .chroma .most) (s .pre .1 .1)))
+    (k, (prepared-lines c, small (s .args .way) _ (s .args .p) k (s .pre .1 .1)))
 
 enum-told-2 : tie.Need-enum-told-2
 enum-told-2 c = search needs
@@ -45,7 +43,7 @@ lossless-requires : tie.Need-lossless-requires
 lossless-requires c κs =
     let s = c .before .before .before in
     let k = subst (λ f. Agreed f (s .args .s)) (c .enum-told3 .given .1) (s .pre .0 .agreed) in
-    (record { chroma-room = omega (arith, k .1 .0, k .1 .1); luma-room = omega (arith, k .0, k .1 .0); chroma-most = s .pre .0 .chroma .most }, s .pre .1 .1)
+    (roomy-R (s .args .s) _ (s .pre .0) k, s .pre .1 .1)
 
 returns : tie.Need-returns
 unfolding convert

@@ -1,9 +1,9 @@
 -- `pixel::has_source` meets its contract: what reverse gives lies within depth, so forward takes it.
-use mathlib.Core.Path.{_≡_, sym, ap, _∙_, subst}
+use mathlib.Core.Path.{sym, ap, _∙_, subst}
 use Rattle.sample.specs.Depth.{InsideRGB}
 use Rattle.pixel.specs.Pixel.{convert}
 use Rattle.pixel.specs.Source.{samePixel, hasSource}
-use Rattle.pixel.specs.declared.Way.the-variants.{Forward, Reverse}
+use Rattle.pixel.specs.declared.Way.the-variants.{Forward}
 use Rattle.pixel.proofs.PixelTheorems.{reverse-inside}
 use borrow.Author.Needs.{needs}
 use Rattle.pixel.proofs.has_source.Statement.{statement}

@@ -1,5 +1,5 @@
 -- `pixel::luma_prepared` meets its contract: what was prepared for a luma matrix is its lines.
-use mathlib.Core.Path.{_≡_, sym, _∙_}
+use mathlib.Core.Path.{sym, _∙_}
 use borrow.Author.Needs.{needs}
 use Rattle.pixel.proofs.luma_prepared.Statement.{statement}
 use Rattle.pixel.proofs.luma_prepared.Tie as tie

@@ -1,5 +1,5 @@
 -- `pixel::prepare` meets its contract: only a luma matrix has something to prepare.
-use mathlib.Core.Path.{_≡_, sym, ap, _∙_, subst}
+use mathlib.Core.Path.{subst}
 use Rattle.pixel.specs.Pixel.{preparedFor}
 use Rattle.pixel.specs.Ready.{Agreed}
 use borrow.Author.Needs.{needs}

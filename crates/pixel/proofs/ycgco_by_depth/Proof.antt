@@ -1,20 +1,20 @@
 -- `pixel::ycgco_by_depth` meets its contract: chroma that is not as deep as luma is one bit deeper.
 use mathlib.Core.Path.{_≡_}
 use mathlib.Core.Logic.{⊎-elim}
-use native.Mathlib.Omega.{arith}
 use borrow.Author.Tests.{eq-eqb, ne-eqb}
 use Prim.Native.Nat.{_+_}
 use Rattle.ycgco.specs.YCgCo.{Roomy}
 use borrow.Author.Needs.{needs}
 use Rattle.pixel.proofs.ycgco_by_depth.Statement.{statement}
 use Rattle.pixel.proofs.ycgco_by_depth.Tie as tie
+use Rattle.pixel.proofs.PixelTheorems.{roomy-8}
 
 roomy : (c : tie.Else1) → Roomy (c .before .args .d)
 roomy c =
     let k = c .before .pre .0 in
     let d = c .before .args .d in
     let e : d .chroma .0 ≡ d .luma .0 + 1 = ⊎-elim (λ e. absurd (c .if1 .left e)) (λ e. e) (k .or-deeper) in
-    record { chroma-room = omega (arith, k .as-deep, e); luma-room = omega (arith, k .as-deep); chroma-most = k .chroma .most }
+    roomy-8 d k e
 
 lossy-requires : tie.Need-lossy-requires
 lossy-requires c κs = search needs

@@ -27,7 +27,7 @@ luma-requires c κs =
       k,
       (
         s .pre .1 .0 ∙ ap (λ f. preparedBy (s .args .way) f (s .args .s)) told,
-        (s .pre .1 .1 .0, λ i h. small (s .args .way) (s .args .s .depths) _ (k .rgb .most) (k .luma .most) (k .chroma .most) (inside i h)),
+        (s .pre .1 .1 .0, λ i h. small (s .args .way) _ _ k (inside i h)),
       ),
     )
 

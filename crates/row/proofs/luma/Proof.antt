@@ -1,7 +1,6 @@
 -- `row::luma` meets its contract: what was prepared for a luma matrix is its lines.
 use mathlib.Core.Path.{_≡_, sym, ap, _∙_, subst}
-use native.Mathlib.Omega.{arith}
-use Prim.Native.Nat.{ℕ}
+use mathlib.Core.Bool.{true≢false}
 use Rattle.levels.specs.Lines.{pixelOf}
 use Rattle.levels.specs.Room.{Rooms}
 use Rattle.pixel.specs.Pixel.{luma, lines}
@@ -43,8 +42,7 @@ returns c =
 returns-2 : tie.Need-returns-2
 returns-2 c =
     let e = sym (c .enum-told .given .1) ∙ c .before .before .before .before .before .before .before .before .pre .1 .0 in
-    let z : _≡_ {A = ℕ} 0 1 = cc in
-    absurd (omega arith)
+    absurd (true≢false cc)
 
 pub luma-spec : {M : Type 1} → statement M
 luma-spec =

@@ -1,6 +1,5 @@
 -- `ycgco::lossless_forward` meets its contract: H is above every sample, so each difference is taken from something larger.
-use mathlib.Core.Path.{_≡_, _∙_}
-use Prim.Native.Nat.{ℕ, _+_, _-_, _^_, _≤_}
+use Prim.Native.Nat.{_-_, _^_, _≤_}
 use native.Mathlib.Omega.{arith}
 use lib.Pow.{pow-mono}
 use Rattle.ycgco.specs.YCgCo.{losslessForward}

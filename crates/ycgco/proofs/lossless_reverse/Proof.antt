@@ -1,10 +1,9 @@
 -- `ycgco::lossless_reverse` meets its contract: each sample is a clipped difference, and red is made of the clipped blue.
-use mathlib.Core.Path.{_≡_, ap, _∙_}
-use Prim.Native.Nat.{ℕ, _-_, _^_}
-use native.Mathlib.Omega.{arith}
-use lib.IntN.{ℤ, pos, _+ℤ_, _-ℤ_}
+use mathlib.Core.Path.{ap, _∙_}
+use Prim.Native.Nat.{_-_, _^_}
+use lib.IntN.{pos, _+ℤ_, _-ℤ_}
 use Rattle.whole.proofs.Closers.{clip-same}
-use Rattle.ycgco.specs.YCgCo.{losslessReverse, BBack}
+use Rattle.ycgco.specs.YCgCo.{losslessReverse}
 use Rattle.ycgco.proofs.Arithmetic.{lossless-g, lossless-b, lossless-r}
 use borrow.Author.Needs.{needs}
 use Rattle.ycgco.proofs.lossless_reverse.Statement.{statement}

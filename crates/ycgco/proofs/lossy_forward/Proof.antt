@@ -1,8 +1,8 @@
 -- `ycgco::lossy_forward` meets its contract: each sample is one call of Round, and chroma is clipped.
-use mathlib.Core.Path.{_≡_, ap, _∙_}
-use Prim.Native.Nat.{ℕ, _-_, _*_, _^_}
+use mathlib.Core.Path.{ap, _∙_}
+use Prim.Native.Nat.{_-_}
 use native.Mathlib.Omega.{arith}
-use lib.IntN.{ℤ, pos, _+ℤ_, _-ℤ_}
+use lib.IntN.{pos, _+ℤ_, _-ℤ_}
 use Rattle.whole.specs.Whole.{round}
 use Rattle.whole.proofs.Closers.{clip-same}
 use Rattle.sample.proofs.DepthLaws.{doubles}

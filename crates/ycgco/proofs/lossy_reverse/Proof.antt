@@ -1,7 +1,6 @@
 -- `ycgco::lossy_reverse` meets its contract: each sample is a clipped difference.
-use mathlib.Core.Path.{_≡_, ap, _∙_}
-use Prim.Native.Nat.{ℕ, _-_, _^_}
-use native.Mathlib.Omega.{arith}
+use mathlib.Core.Path.{ap, _∙_}
+use Prim.Native.Nat.{_-_, _^_}
 use Rattle.whole.proofs.Closers.{clip-same}
 use Rattle.ycgco.specs.YCgCo.{lossyReverse}
 use Rattle.ycgco.proofs.Arithmetic.{lossy-r, lossy-g, lossy-b}

@@ -1,5 +1,5 @@
 -- `cases::pixels::meter_one` is safe: a level is no NaN, so its bits may be taken.
-use mathlib.Core.Path.{_≡_, sym, _∙_}
+use mathlib.Core.Path.{sym, _∙_}
 use native.Mathlib.Omega.{arith}
 use Rattle.corkplover.proofs.LevelLaws.{reading-is-number}
 use borrow.Author.Needs.{needs}

@@ -1,5 +1,5 @@
 -- `cases::pixels::meter_three` is safe: no level is a NaN, so their bits may be taken.
-use mathlib.Core.Path.{_≡_, sym, _∙_}
+use mathlib.Core.Path.{sym, _∙_}
 use native.Mathlib.Omega.{arith}
 use Rattle.corkplover.proofs.LevelLaws.{levels-are-numbers}
 use borrow.Author.Needs.{needs}

@@ -1,5 +1,5 @@
 -- `cases::planes::frame_line` is safe, and goes on after what it read.
-use mathlib.Core.Path.{_≡_, sym}
+use mathlib.Core.Path.{sym}
 use native.Mathlib.Omega.{arith}
 use lib.Seq.{length-take-le}
 use borrow.Author.Needs.{needs}

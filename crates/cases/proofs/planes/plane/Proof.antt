@@ -1,5 +1,5 @@
 -- `cases::planes::plane` ends at the plane's length, and goes on at or after where it began.
-use Prim.Native.Nat.{_≤_, _<_, _-_}
+use Prim.Native.Nat.{_≤_, _-_}
 use native.Mathlib.Omega.{arith}
 use borrow.Author.Needs.{needs}
 use mathlib.Core.Path.{_≡_}

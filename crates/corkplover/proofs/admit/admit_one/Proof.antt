@@ -1,15 +1,11 @@
 -- `corkplover::admit::admit_one` meets its contract: a refusal by the setting stands, and else the samples are asked.
-use mathlib.Core.Path.{_≡_, sym, ap, _∙_}
-use Rattle.plane.specs.declared.search.Found.{Found}
-use Rattle.refusal.specs.declared.Refusal.{Refusal}
-use Rattle.setting.specs.Refusals.{depths, served, verdictOf}
+use mathlib.Core.Path.{sym, ap, _∙_}
+use Rattle.setting.specs.Refusals.{depths, verdictOf}
 use Rattle.setting.specs.declared.Call.the-variants as call
-use Rattle.setting.specs.declared.verdict.Verdict.{Verdict}
-use Rattle.setting.specs.declared.verdict.Verdict.the-variants as verdict
 use Rattle.picture.specs.Verdict.{past}
-use Rattle.picture.proofs.VerdictLaws.{three}
+use Rattle.picture.proofs.VerdictLaws.{verdict-ready}
 use Rattle.corkplover.specs.Admit.{badOne, admittedOne}
-use Rattle.corkplover.proofs.AdmitLaws.{refused-stays, verdict-ready, verdict-is}
+use Rattle.corkplover.proofs.AdmitLaws.{refused-stays, verdict-is}
 use borrow.Author.Needs.{needs}
 use Rattle.corkplover.proofs.admit.admit_one.Statement.{statement}
 use Rattle.corkplover.proofs.admit.admit_one.Tie as tie
@@ -26,7 +22,7 @@ enum-known-verdict c = search needs
 bad-one-requires : tie.Need-bad-one-requires
 bad-one-requires c κs =
     let a = c .before .before .before .before .before .args in
-    three (verdict-ready call.Meter (a .s) _ (sym (c .before .before .before .before .judge .ensures) ∙ c .before .before .verdict .given .1))
+    verdict-ready call.Meter (a .s) _ (sym (c .before .before .before .before .judge .ensures) ∙ c .before .before .verdict .given .1) .three
 
 past-requires : tie.Need-past-requires
 past-requires c κs = search needs

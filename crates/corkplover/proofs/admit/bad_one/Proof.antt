@@ -1,5 +1,5 @@
 -- `corkplover::admit::bad_one` meets its contract: one sample is a picture of one row and one column.
-use mathlib.Core.Path.{_≡_, _∙_}
+use mathlib.Core.Path.{_∙_}
 use mathlib.Core.List.{[], _∷_}
 use Rattle.plane.specs.First.{firstBad}
 use borrow.Author.Needs.{needs}

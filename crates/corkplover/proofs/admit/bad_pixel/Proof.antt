@@ -1,5 +1,5 @@
 -- `corkplover::admit::bad_pixel` meets its contract: a pixel is a picture of one row and one column.
-use mathlib.Core.Path.{_≡_, _∙_}
+use mathlib.Core.Path.{_∙_}
 use mathlib.Core.List.{[], _∷_}
 use Rattle.plane.specs.First.{badSample}
 use borrow.Author.Needs.{needs}

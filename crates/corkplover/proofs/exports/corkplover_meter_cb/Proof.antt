@@ -1,5 +1,5 @@
 -- The exported Cb meter is the reading, packed, with its level written through.
-use mathlib.Core.Path.{_≡_, ap, _∙_}
+use mathlib.Core.Path.{ap, _∙_}
 use Rattle.meter.specs.declared.SampleKind.the-variants.{Cb}
 use Rattle.corkplover.specs.Answers.{reading}
 use Rattle.corkplover.specs.Packing.{packedReading, levelIn}

@@ -1,5 +1,5 @@
 -- The exported pixel meter is the answer, packed, with its levels written through.
-use mathlib.Core.Path.{_≡_, ap, _∙_}
+use mathlib.Core.Path.{ap, _∙_}
 use Rattle.corkplover.specs.Answers.{levelsAnswer}
 use Rattle.corkplover.specs.Packing.{packedLevels, levelsIn}
 use borrow.Author.Needs.{needs}

@@ -1,5 +1,5 @@
 -- The exported primaries label is the number of the label.
-use mathlib.Core.Path.{_≡_, ap, _∙_}
+use mathlib.Core.Path.{ap, _∙_}
 use Rattle.setting.specs.Label.{labelNumber}
 use borrow.Author.Needs.{needs}
 use Rattle.corkplover.proofs.exports.corkplover_primaries_label.Statement.{statement}

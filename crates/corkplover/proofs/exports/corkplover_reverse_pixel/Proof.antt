@@ -1,5 +1,5 @@
 -- The exported reverse pixel is the pixel's answer, packed.
-use mathlib.Core.Path.{_≡_, ap, _∙_}
+use mathlib.Core.Path.{ap, _∙_}
 use Rattle.pixel.specs.declared.Way.the-variants.{Reverse}
 use Rattle.corkplover.specs.Answers.{pixelAnswer}
 use Rattle.corkplover.specs.Packing.{packedPixel}

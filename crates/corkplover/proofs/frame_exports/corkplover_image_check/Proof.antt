@@ -1,5 +1,5 @@
 -- The exported image check is the answer, packed.
-use mathlib.Core.Path.{_≡_, ap, _∙_}
+use mathlib.Core.Path.{ap, _∙_}
 use Rattle.image.specs.Image.{imageAnswer}
 use Rattle.picture.specs.Picture.{picture}
 use Rattle.corkplover.specs.Packing.{packedImage}

@@ -1,9 +1,6 @@
 -- The exported reverse frame is the frame's answer, packed, and the planes are the frame's own.
-use mathlib.Core.Path.{_≡_, ap, _∙_}
-use lib.ListN.{length}
 use Rattle.pixel.specs.declared.Way.the-variants.{Reverse}
-use Rattle.frame.specs.Frame.{sourceOf, outputOf, frameAnswer, outPlane}
-use Rattle.corkplover.specs.Packing.{packedFrame}
+use Rattle.corkplover.proofs.FrameLaws.{exported}
 use borrow.Author.Needs.{needs}
 use Rattle.corkplover.proofs.frame_exports.corkplover_reverse_frame.Statement.{statement}
 use Rattle.corkplover.proofs.frame_exports.corkplover_reverse_frame.Tie as tie
@@ -32,18 +29,9 @@ same-length-3 c = search needs
 returns : tie.Need-returns
 returns c =
     let a = c .before .before .before .before .before .before .before .before .before .before .before .before .before .before .before .before .before .before .before .args in
-    let s = c .before .before .before .before .before .before .before .before .before .before .before .before .setting-of .ensures in
-    let z = c .before .before .before .before .before .before .before .before .before .before .before .size-of .ensures in
-    let e = c .before .before .before .before .before .before .before .reverse-frame .ensures in (
-      c .pack-frame .ensures ∙ ap packedFrame (e .0 ∙ (λ i. frameAnswer Reverse (s i) (sourceOf (z i) (a .y .now) (a .cb .now) (a .cr .now)) (outputOf (z i) (length (a .r .now)) (length (a .g .now)) (length (a .b .now))))),
-      (
-        e .1 .0 ∙ (λ i. outPlane 0 Reverse (s i) (sourceOf (z i) (a .y .now) (a .cb .now) (a .cr .now)) (outputOf (z i) (length (a .r .now)) (length (a .g .now)) (length (a .b .now)))),
-        (
-          e .1 .1 .0 ∙ (λ i. outPlane 1 Reverse (s i) (sourceOf (z i) (a .y .now) (a .cb .now) (a .cr .now)) (outputOf (z i) (length (a .r .now)) (length (a .g .now)) (length (a .b .now)))),
-          e .1 .1 .1 ∙ (λ i. outPlane 2 Reverse (s i) (sourceOf (z i) (a .y .now) (a .cb .now) (a .cr .now)) (outputOf (z i) (length (a .r .now)) (length (a .g .now)) (length (a .b .now)))),
-        ),
-      ),
-    )
+    exported Reverse (a .y .now) (a .cb .now) (a .cr .now) (a .r .now) (a .g .now) (a .b .now)
+    (c .before .before .before .before .before .before .before .before .before .before .before .before .setting-of .ensures) (c .before .before .before .before .before .before .before .before .before .before .before .size-of .ensures)
+    (c .pack-frame .ensures) (c .before .before .before .before .before .before .before .reverse-frame .ensures)
 
 pub corkplover-reverse-frame-spec : {M : Type 1} → statement M
 corkplover-reverse-frame-spec =

@@ -1,8 +1,6 @@
 -- `corkplover::one_pixel::convert_pixel` meets its contract: a call that was let in has all that the conversion asks.
 use mathlib.Core.Path.{_≡_, sym, ap, _∙_}
-use Rattle.pixel.specs.Pixel.{convert, callOf}
-use Rattle.setting.specs.declared.verdict.Served.{Served}
-use Rattle.setting.specs.declared.verdict.Verdict.the-variants as verdict
+use Rattle.pixel.specs.Pixel.{callOf}
 use Rattle.corkplover.specs.Admit.{admitted}
 use Rattle.corkplover.specs.Answers.{convertedBy, pixelAnswer}
 use Rattle.corkplover.specs.declared.one_pixel.PixelAnswer.the-variants as answer

@@ -1,9 +1,9 @@
 -- `corkplover::one_pixel::source_pixel` meets its contract: a call that was let in has all that the test asks.
-use mathlib.Core.Path.{_≡_, sym, ap, _∙_}
+use mathlib.Core.Path.{sym, ap, _∙_}
 use mathlib.Core.Bool.{cond}
 use Rattle.setting.specs.declared.Call.the-variants as call
 use Rattle.pixel.specs.declared.Way.the-variants.{Reverse}
-use Rattle.corkplover.specs.Answers.{sourceBy, sourceAnswer}
+use Rattle.corkplover.specs.Answers.{sourceAnswer}
 use Rattle.corkplover.specs.declared.one_pixel.SourceAnswer.the-variants as answer
 use Rattle.corkplover.proofs.AdmitLaws.{LetIn, let-in}
 use borrow.Author.Needs.{needs}

@@ -1,26 +1,11 @@
 -- `corkplover::spot::meter_sample` meets its contract: a setting that was let in has depths.
-use mathlib.Core.Path.{_≡_, sym, ap, _∙_}
-use Rattle.setting.specs.Refusals.{depths, verdictOf}
-use Rattle.setting.specs.declared.Call.the-variants as call
-use Rattle.setting.specs.declared.Setting.{Setting}
-use Rattle.setting.specs.declared.verdict.Served.{Served}
-use Rattle.setting.specs.declared.verdict.Verdict.the-variants as verdict
-use Rattle.meter.specs.declared.SampleKind.{SampleKind}
-use Prim.Native.Nat.{ℕ}
-use Rattle.pixel.specs.Ready.{Ready}
-use Rattle.picture.specs.Verdict.{past}
-use Rattle.picture.proofs.VerdictLaws.{past-both}
-use Rattle.corkplover.specs.Admit.{badOne, admittedOne}
-use Rattle.corkplover.specs.Answers.{readBy, reading}
+use mathlib.Core.Path.{sym, ap, _∙_}
+use Rattle.corkplover.specs.Answers.{reading}
 use Rattle.corkplover.specs.declared.spot.Reading.the-variants as answer
-use Rattle.corkplover.proofs.AdmitLaws.{verdict-ready}
+use Rattle.corkplover.proofs.AdmitLaws.{one-ready}
 use borrow.Author.Needs.{needs}
 use Rattle.corkplover.proofs.spot.meter_sample.Statement.{statement}
 use Rattle.corkplover.proofs.spot.meter_sample.Tie as tie
-
-one-ready : (k : SampleKind) (s : Setting) (v : ℕ) (x : Served) → admittedOne k s v ≡ verdict.Served x → Ready x
-unfolding admittedOne
-one-ready k s v x e = verdict-ready call.Meter s x (past-both (verdictOf call.Meter s) (badOne k (depths s) v) x e .0)
 
 admit-one-requires : tie.Need-admit-one-requires
 admit-one-requires c κs = search needs
@@ -35,7 +20,7 @@ level-of-requires : tie.Need-level-of-requires
 level-of-requires c κs =
     let a = c .before .before .before .before .before .args in
     let k = one-ready (a .kind) (a .s) (a .v) _ (sym (c .before .before .before .before .admit-one .ensures) ∙ c .before .before .served .given .1) in
-    (k .luma, k .chroma)
+    (k .three .luma, k .three .chroma)
 
 returns : tie.Need-returns
 unfolding reading

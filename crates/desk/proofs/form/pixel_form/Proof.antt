@@ -1,5 +1,5 @@
 -- `desk::form::pixel_form` meets its contract: the tests are those of the definition.
-use borrow.Author.Tests.{lt-ltb, le-ltb, eq-eqb, ne-eqb}
+use borrow.Author.Tests.{eq-eqb, ne-eqb}
 use Rattle.desk.specs.Form.{pixelForm}
 use borrow.Author.Needs.{needs}
 use Rattle.desk.proofs.form.pixel_form.Statement.{statement}

@@ -1,6 +1,6 @@
 -- `sample::ChromaDepth::checked` meets its contract: the two tests of the code are the one of the definition.
 use native.Mathlib.Omega.{arith}
-use Rattle.sample.specs.Depth.{chromaChecked, Depth}
+use Rattle.sample.specs.Depth.{chromaChecked}
 use Rattle.sample.proofs.DepthLaws.{depth-yes, depth-no}
 use Rattle.sample.proofs.ChromaDepth.checked.Statement.{statement}
 use Rattle.sample.proofs.ChromaDepth.checked.Tie as tie

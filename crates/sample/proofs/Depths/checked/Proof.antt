@@ -1,8 +1,7 @@
 -- `sample::Depths::checked` meets its contract: each of the three checks tells how its part of the definition's test went.
-use mathlib.Core.Path.{_≡_, sym, ap, _∙_}
-use mathlib.Core.Bool.{Bool, true, false}
+use mathlib.Core.Path.{_≡_, sym, _∙_}
+use mathlib.Core.Bool.{true, false, true≢false}
 use Prim.Native.Nat.{ℕ}
-use native.Mathlib.Omega.{arith}
 use borrow.Author.Needs.{needs}
 use Rattle.sample.specs.Depth.{isDepth, areDepths, rgbChecked, lumaChecked, chromaChecked, depthsChecked, rgbDepth, lumaDepth, chromaDepth}
 use Rattle.sample.specs.declared.RgbDepth.{RgbDepth}
@@ -17,32 +16,32 @@ use Rattle.sample.proofs.Depths.checked.Tie as tie
 
 rgb-no : (n : ℕ) → rgbChecked n ≡ rgb.Outside → isDepth n ≡ false
 unfolding rgbChecked
-rgb-no n e = chose-second (isDepth n) _ _ _ e (λ f. let z : _≡_ {A = ℕ} 0 1 = cc in omega arith) .0
+rgb-no n e = chose-second (isDepth n) _ _ _ e (λ f. true≢false cc) .0
 
 rgb-yes : (n : ℕ) (d : RgbDepth) → rgbChecked n ≡ rgb.Depth d → (isDepth n ≡ true) × (rgbDepth n ≡ d)
 unfolding rgbChecked
 rgb-yes n d e =
-    let t = chose-first (isDepth n) _ _ _ e (λ f. let z : _≡_ {A = ℕ} 0 1 = cc in omega arith) in
+    let t = chose-first (isDepth n) _ _ _ e (λ f. true≢false cc) in
     (t .0, (let q = t .1 in cc))
 
 luma-no : (n : ℕ) → lumaChecked n ≡ luma.Outside → isDepth n ≡ false
 unfolding lumaChecked
-luma-no n e = chose-second (isDepth n) _ _ _ e (λ f. let z : _≡_ {A = ℕ} 0 1 = cc in omega arith) .0
+luma-no n e = chose-second (isDepth n) _ _ _ e (λ f. true≢false cc) .0
 
 luma-yes : (n : ℕ) (d : LumaDepth) → lumaChecked n ≡ luma.Depth d → (isDepth n ≡ true) × (lumaDepth n ≡ d)
 unfolding lumaChecked
 luma-yes n d e =
-    let t = chose-first (isDepth n) _ _ _ e (λ f. let z : _≡_ {A = ℕ} 0 1 = cc in omega arith) in
+    let t = chose-first (isDepth n) _ _ _ e (λ f. true≢false cc) in
     (t .0, (let q = t .1 in cc))
 
 chroma-no : (n : ℕ) → chromaChecked n ≡ chroma.Outside → isDepth n ≡ false
 unfolding chromaChecked
-chroma-no n e = chose-second (isDepth n) _ _ _ e (λ f. let z : _≡_ {A = ℕ} 0 1 = cc in omega arith) .0
+chroma-no n e = chose-second (isDepth n) _ _ _ e (λ f. true≢false cc) .0
 
 chroma-yes : (n : ℕ) (d : ChromaDepth) → chromaChecked n ≡ chroma.Depth d → (isDepth n ≡ true) × (chromaDepth n ≡ d)
 unfolding chromaChecked
 chroma-yes n d e =
-    let t = chose-first (isDepth n) _ _ _ e (λ f. let z : _≡_ {A = ℕ} 0 1 = cc in omega arith) in
+    let t = chose-first (isDepth n) _ _ _ e (λ f. true≢false cc) in
     (t .0, (let q = t .1 in cc))
 
 checked-requires : tie.Need-checked-requires

@@ -1,6 +1,6 @@
 -- `sample::LumaDepth::checked` meets its contract: the two tests of the code are the one of the definition.
 use native.Mathlib.Omega.{arith}
-use Rattle.sample.specs.Depth.{lumaChecked, Depth}
+use Rattle.sample.specs.Depth.{lumaChecked}
 use Rattle.sample.proofs.DepthLaws.{depth-yes, depth-no}
 use Rattle.sample.proofs.LumaDepth.checked.Statement.{statement}
 use Rattle.sample.proofs.LumaDepth.checked.Tie as tie

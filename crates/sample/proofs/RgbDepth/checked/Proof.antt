@@ -1,6 +1,6 @@
 -- `sample::RgbDepth::checked` meets its contract: the two tests of the code are the one of the definition.
 use native.Mathlib.Omega.{arith}
-use Rattle.sample.specs.Depth.{rgbChecked, Depth}
+use Rattle.sample.specs.Depth.{rgbChecked}
 use Rattle.sample.proofs.DepthLaws.{depth-yes, depth-no}
 use Rattle.sample.proofs.RgbDepth.checked.Statement.{statement}
 use Rattle.sample.proofs.RgbDepth.checked.Tie as tie

@@ -1,5 +1,5 @@
 -- `setting::label::primaries_label` meets its contract: the arms of the match are the spans of the definition.
-use mathlib.Core.Path.{_≡_, refl, _∙_}
+use mathlib.Core.Path.{_∙_}
 use mathlib.Core.Logic.{⊎-elim, inl, inr}
 use native.Mathlib.Omega.{arith}
 use Rattle.setting.specs.Label.{among, labelled}

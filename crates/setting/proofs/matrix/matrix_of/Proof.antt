@@ -1,13 +1,12 @@
 -- `setting::matrix::matrix_of` meets its contract: the arms of the match are the entries of the table.
 use mathlib.Core.Path.{_≡_, refl, sym}
-use Prim.Native.Nat.{ℕ, _≤_, _<_}
+use Prim.Native.Nat.{ℕ, _≤_}
 use native.Mathlib.Omega.{arith}
 use borrow.Author.Needs.{needs}
 use lib.ListN.{List·getD-eq-default}
 use Rattle.setting.specs.Matrix.{matrixOf, matrices, luma}
-use Rattle.setting.specs.declared.matrix.Matrix.{Matrix}
 use Rattle.setting.specs.declared.matrix.Matrix.the-variants as matrix
-use Rattle.setting.proofs.Ranges.{Each, each}
+use Rattle.setting.proofs.Ranges.{each}
 use Rattle.setting.proofs.matrix.matrix_of.Statement.{statement}
 use Rattle.setting.proofs.matrix.matrix_of.Tie as tie
 

@@ -1,7 +1,5 @@
 -- `setting::verdict::is_lossless` meets its contract, family by family.
-use mathlib.Core.Path.{_≡_, sym, ap, _∙_}
 use borrow.Author.Needs.{needs}
-use Rattle.setting.specs.Agreement.{lossless}
 use Rattle.setting.proofs.verdict.is_lossless.Statement.{statement}
 use Rattle.setting.proofs.verdict.is_lossless.Tie as tie
 

@@ -3,7 +3,7 @@ use mathlib.Core.Path.{_≡_, sym, ap, _∙_}
 use Prim.Native.Nat.{ℕ}
 use borrow.Author.Needs.{needs}
 use borrow.Author.Tests.{ne-eqb}
-use Rattle.refusal.specs.Table.{first, orElse}
+use Rattle.refusal.specs.Table.{first}
 use Rattle.setting.specs.Matrix.{matrixOf}
 use Rattle.setting.specs.Refusals.{family, familyOf, codeRows, depthRows, servedBy, judged, refusalOf}
 use Rattle.setting.proofs.RefusalLaws.{in-turn, judged-refused}

@@ -1,15 +1,14 @@
 -- `setting::verdict::judge_depths` meets its contract: each test that was passed takes one row away.
 use mathlib.Core.Path.{_≡_, sym, ap, _∙_}
-use mathlib.Core.Bool.{Bool, true, false, not}
-use Prim.Native.Nat.{ℕ}
+use mathlib.Core.Bool.{Bool, true, false}
 use borrow.Author.Needs.{needs}
 use borrow.Author.Tests.{not-true, not-false}
-use Rattle.refusal.specs.Table.{first, plain}
+use Rattle.refusal.specs.Table.{first}
 use Rattle.sample.specs.declared.Depths.{Depths}
 use Rattle.sample.specs.declared.DepthsChecked.the-variants as checked
 use Rattle.sample.proofs.DepthLaws.{told-outside, told-depths}
 use Rattle.setting.specs.Agreement.{depthsServed, agree}
-use Rattle.setting.specs.Refusals.{depths, answers, depthRows, servedDepths, servedBy, judged}
+use Rattle.setting.specs.Refusals.{depths, answers, depthRows, servedDepths, judged}
 use Rattle.setting.specs.declared.Call.{Call}
 use Rattle.setting.specs.declared.Setting.{Setting}
 use Rattle.setting.specs.declared.matrix.Family.{Family}

@@ -1,5 +1,5 @@
 -- `setting::verdict::refused_code` meets its contract: each test that was passed takes one row away.
-use mathlib.Core.Path.{_≡_, sym, _∙_}
+use mathlib.Core.Path.{sym, _∙_}
 use Rattle.setting.proofs.RefusalLaws.{own-row, row-4, row-5, row-none, tested}
 use borrow.Author.Needs.{needs}
 use Rattle.setting.proofs.verdict.refused_code.Statement.{statement}

@@ -1,6 +1,6 @@
 -- `setting::verdict::served_depths` meets its contract: the check of the three kinds, and then the family's own limit.
 use mathlib.Core.Path.{_≡_, sym, ap, _∙_}
-use mathlib.Core.Bool.{Bool, true, false, _&&_}
+use mathlib.Core.Bool.{Bool, true, false}
 use Prim.Native.Nat.{ℕ}
 use borrow.Author.Needs.{needs}
 use Rattle.sample.specs.Depth.{areDepths, atMost, depthsOf, depthsChecked}

@@ -1,10 +1,9 @@
 -- `text::reading::span_of` meets its contract: after i turns the words from word i on are all that is left.
-use mathlib.Core.Path.{_≡_, refl, sym, ap, _∙_, subst}
+use mathlib.Core.Path.{_≡_, refl}
 use Prim.Native.Nat.{_+_, _-_, _≤_}
 use native.Mathlib.Omega.{arith}
 use denote.Ref.{now}
 use lib.ListN.{length}
-use Rattle.text.specs.Words.{endOf, Spans}
 use Rattle.text.proofs.WordLaws.{end-within, Starts, next-starts, spans-word, spans-none}
 use borrow.Author.Needs.{needs}
 use Rattle.text.proofs.reading.span_of.Statement.{statement}
