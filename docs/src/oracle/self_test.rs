@@ -1,4 +1,4 @@
-//! Checks the oracle: against every value the scope paper prints, against
+//! Checks the oracle: against the worked examples of the rules, against
 //! brute force where the numbers are small, and against the formulas' own
 //! promises. Also checks that the case texts hold what they are made for.
 
@@ -7,7 +7,6 @@ use crate::cases::pixel_cases;
 use crate::fraction::Fraction;
 use crate::frame_cases::frame_cases;
 use crate::halves::Target;
-use crate::paper::{EDGES, FRAMES, FRAME_ORDER, PIXELS, PIXEL_ORDER, REFUSALS};
 use crate::random::Random;
 use crate::rules::{
     convert_pixel, converted, has_source, levels_forward, levels_reverse, output_depths,
@@ -15,6 +14,7 @@ use crate::rules::{
 };
 use crate::settings::{self, KINDS, LUMA_CODES};
 use crate::words::Words;
+use crate::worked::{EDGES, FRAMES, FRAME_ORDER, PIXELS, PIXEL_ORDER, REFUSALS};
 use std::fmt::Debug;
 
 /// What every part of the test gives: nothing, or the first mismatch in words.
