@@ -31,7 +31,7 @@
  *
  *   1, 4, 5, 6, 7, 9   luma matrices: depths 8 to 12, c_depth = y_depth, everything else free
  *   0                  the planes change places: three equal depths 8 to 16, equal flags. Lossless.
- *   8                  YCgCo: rgb_depth = y_depth, equal flags, and c_depth = y_depth (lossy) or y_depth + 1 (lossless)
+ *   8                  YCgCo: rgb_depth = y_depth, equal flags. With c_depth = y_depth it is lossy, with one bit more lossless.
  *   15                 YCgCo: y_depth = c_depth = rgb_depth + 2, equal flags. Lossless.
  *   16                 YCgCo: y_depth = c_depth = rgb_depth + 1, equal flags. Lossless.
  *
@@ -106,17 +106,17 @@ static inline cork_source cork_read_back(cork_output output)
  */
 typedef enum cork_refusal {
     CORK_ACCEPTED = 0,
-    CORK_MATRIX_RESERVED = 1,     /* the matrix is 3 or 17 to 255 */
-    CORK_MATRIX_UNSPECIFIED = 2,  /* the matrix is 2, which names none */
-    CORK_MATRIX_NOT_SERVED = 3,   /* the matrix is 10 to 14 */
-    CORK_PRIMARIES_RESERVED = 4,  /* the primaries are not 1, 2, 4 to 12 or 22 */
-    CORK_TRANSFER_RESERVED = 5,   /* the transfer is not 1, 2 or 4 to 18 */
-    CORK_DEPTH_NOT_SERVED = 6,    /* a depth is outside 8 to 16, or outside 8 to 12 with a luma matrix */
-    CORK_DEPTHS_DISAGREE = 7,     /* the depths or the flags are not as the matrix asks */
-    CORK_SIZE_NOT_SERVED = 8,     /* a side outside 1 to 8192, or a stride below the width or above 16384 */
-    CORK_PLANE_TOO_SHORT = 9,     /* a plane is shorter than cork_needed_length */
-    CORK_SAMPLE_TOO_LARGE = 10,   /* a source sample has more bits than its depth; the answer says where */
-    CORK_NOT_FOR_THIS_MATRIX = 11 /* the meter without a luma matrix, or the image check without a lossless setting */
+    CORK_MATRIX_RESERVED = 1,      /* the matrix is 3 or 17 to 255 */
+    CORK_MATRIX_UNSPECIFIED = 2,   /* the matrix is 2, which names none */
+    CORK_MATRIX_NOT_SERVED = 3,    /* the matrix is 10 to 14 */
+    CORK_PRIMARIES_RESERVED = 4,   /* the primaries are not 1, 2, 4 to 12 or 22 */
+    CORK_TRANSFER_RESERVED = 5,    /* the transfer is not 1, 2 or 4 to 18 */
+    CORK_DEPTH_NOT_SERVED = 6,     /* a depth is outside 8 to 16, or outside 8 to 12 with a luma matrix */
+    CORK_DEPTHS_DISAGREE = 7,      /* the depths or the flags are not as the matrix asks */
+    CORK_SIZE_NOT_SERVED = 8,      /* a side outside 1 to 8192, or a stride less than the width or more than 16384 */
+    CORK_PLANE_TOO_SHORT = 9,      /* a plane is shorter than cork_needed_length */
+    CORK_SAMPLE_TOO_LARGE = 10,    /* a source sample has more bits than its depth; the answer says where */
+    CORK_NOT_FOR_THIS_SETTING = 11 /* the meter without a luma matrix, or the image check without a lossless setting */
 } cork_refusal;
 
 /* The refusal in words, for a message; words too for a number that is no refusal. */
@@ -134,7 +134,7 @@ static inline const char *cork_refusal_text(int number)
     case CORK_SIZE_NOT_SERVED: return "the width, the height or a stride is not served";
     case CORK_PLANE_TOO_SHORT: return "a plane is too short for the picture";
     case CORK_SAMPLE_TOO_LARGE: return "a source sample is too large for its depth";
-    case CORK_NOT_FOR_THIS_MATRIX: return "the meter needs a luma matrix, the image check a lossless setting";
+    case CORK_NOT_FOR_THIS_SETTING: return "the meter needs a luma matrix, the image check a lossless setting";
     default: return "not a refusal number";
     }
 }

@@ -45,6 +45,11 @@ class Refusal(Exception):
         self.row, self.column = packed >> 16 & 0xFFFF, packed >> 32 & 0xFFFF
         place = ": plane %d, row %d, column %d" % (self.plane, self.row, self.column) if self.number == 10 else ""
         super().__init__("refused %d: %s%s" % (self.number, refusal_text(self.number), place))
+        self._packed = packed
+
+    def __reduce__(self):
+        """Copies and pickles are made from the number, as the first one was; Exception would make them from the text."""
+        return type(self), (self._packed,), vars(self)
 
 
 def _buffer(length):

@@ -1,4 +1,6 @@
 """The Python binding as a caller meets it: answers become values, refusals are raised, and wrong types never reach the library."""
+import copy
+import pickle
 import unittest
 from array import array
 
@@ -24,6 +26,19 @@ class Answers(unittest.TestCase):
         self.assertEqual(cork.reverse_pixel(LOSSLESS, (63, 129, 511)), (255, 0, 0))
         self.refused(2, 0, cork.forward_pixel, LOSSLESS._replace(matrix=2), (0, 0, 0))
         self.refused(10, 2, cork.forward_pixel, LOSSLESS, (0, 0, 256))
+
+    def test_refusals_are_copied_and_pickled(self):
+        """Also what a caller noted on the exception goes along."""
+        source = cork.Source(planes([1, 2, 3], [4, 5, 6], [7, 8, 300]), 1)
+        with self.assertRaises(cork.Refusal) as caught:
+            cork.forward_frame(LOSSLESS, 1, 3, source, cork.Output([3, 3, 3], 1))
+        r = caught.exception
+        self.assertEqual((r.number, r.plane, r.row, r.column), (10, 2, 2, 0))
+        r.picture = "beach"
+        pickled = [pickle.loads(pickle.dumps(r, protocol)) for protocol in range(pickle.HIGHEST_PROTOCOL + 1)]
+        for again in pickled + [copy.copy(r), copy.deepcopy(r)]:
+            self.assertIs(type(again), cork.Refusal)
+            self.assertEqual((str(again), vars(again)), (str(r), vars(r)))
 
     def test_frames(self):
         output = cork.Output([4, 4, 4], 3)

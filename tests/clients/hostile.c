@@ -1,16 +1,22 @@
-/* Sizes, strides and lengths at the ends of their types, in all combinations, on all three calls that take a picture. Each answer is
- * compared with what the refusal table says, worked out here without any multiplication that could wrap; the output must be
- * zeros, and the guards around it must stand. */
+/* Sizes and strides at the ends of their types, in all combinations, on all three calls that take a picture. A length has to be true,
+ * so no plane can be that long: outputs have 0, 1 and 40 elements, sources also 2^32 and one more, which 32 bits would take for 0
+ * and 1. Each answer is compared with what the refusal table says, worked out here without any multiplication that could wrap; the
+ * output must be zeros, and the guards around it must stand. */
+#define _DEFAULT_SOURCE
 #include "cases.h"
+#include <sys/mman.h>
 
 enum { ROOM = 40, GUARD = 16 };
+
+#define LONG ((size_t)1 << 32)
 
 static const size_t NUMBERS[] = {
     0, 1, 2, 5, 8192, 8193, 16384, 16385, 65536, 65537, (size_t)1 << 32, ((size_t)1 << 32) + 1, (size_t)1 << 63, SIZE_MAX - 1, SIZE_MAX,
 };
 enum { COUNT = sizeof NUMBERS / sizeof *NUMBERS };
 
-static const size_t LENGTHS[] = {0, 1, ROOM};
+static const size_t LENGTHS[] = {0, 1, ROOM, LONG, LONG + 1};
+enum { SHORT_LENGTHS = 3, ALL_LENGTHS = sizeof LENGTHS / sizeof *LENGTHS };
 
 /* Code 0 only moves planes about, so that a black picture is zeros on both sides. */
 static const cork_setting LOSSLESS = {1, 1, 0, 8, 8, 8, true, true};
@@ -39,7 +45,22 @@ static int expected(char call, sizes z, size_t source_length, size_t output_leng
     return 0;
 }
 
-static uint16_t zeros[ROOM];
+static const uint16_t short_zeros[ROOM];
+static const uint16_t *zeros = short_zeros;
+static int source_lengths = SHORT_LENGTHS;
+
+/* Pages that are only read and never written are all the same page of zeros: eight gigabytes of them take no memory. */
+static void find_long_zeros(void)
+{
+    void *pages = mmap(NULL, (LONG + 1) * sizeof *zeros, PROT_READ, MAP_PRIVATE | MAP_ANONYMOUS | MAP_NORESERVE, -1, 0);
+    if (pages == MAP_FAILED) {
+        printf("skipped: sources of 2^32 elements, for which this machine has no addresses\n");
+        return;
+    }
+    zeros = (const uint16_t *)pages;
+    source_lengths = ALL_LENGTHS;
+}
+
 static uint16_t blocks[3][GUARD + ROOM + GUARD];
 
 static bool is_zero_plane(int k, size_t length, bool written)
@@ -77,12 +98,13 @@ static void try_one(char call, sizes z, size_t source_length, size_t output_leng
 
 static void try_lengths(char call, sizes z)
 {
-    for (int i = 0; i < 3; i++)
-        for (int j = 0; j < 3; j++) try_one(call, z, LENGTHS[i], LENGTHS[j]);
+    for (int i = 0; i < source_lengths; i++)
+        for (int j = 0; j < (call == 'I' ? 1 : SHORT_LENGTHS); j++) try_one(call, z, LENGTHS[i], LENGTHS[j]);
 }
 
 int main(void)
 {
+    find_long_zeros();
     for (int w = 0; w < COUNT; w++)
         for (int h = 0; h < COUNT; h++)
             for (int s = 0; s < COUNT; s++)

@@ -58,7 +58,7 @@ static void check_frames(size_t width)
     must(cork_row(a) == SIDE - 1 && cork_column(a) == width - 1, "its place is wrong");
 }
 
-/* On the black and white picture just made: its source is there, and is gone once the last corner's luma is changed. */
+/* On the black and white picture just made: its source is there, and is gone once the last corner's Cb is changed. */
 static void check_image(size_t width)
 {
     must(cork_accepted(convert(width, 0)), "the largest frame is not served");

@@ -9,13 +9,13 @@ mod cases;
 mod fraction;
 mod frame_cases;
 mod halves;
-mod paper;
 mod pixels;
 mod random;
 mod rules;
 mod self_test;
 mod settings;
 mod words;
+mod worked;
 
 use std::io::{self, Read, Write};
 use std::process::exit;

@@ -1,4 +1,4 @@
-//! Checks the oracle: against every value the scope paper prints, against
+//! Checks the oracle: against the worked examples of the rules, against
 //! brute force where the numbers are small, and against the formulas' own
 //! promises. Also checks that the case texts hold what they are made for.
 
@@ -7,7 +7,6 @@ use crate::cases::pixel_cases;
 use crate::fraction::Fraction;
 use crate::frame_cases::frame_cases;
 use crate::halves::Target;
-use crate::paper::{EDGES, FRAMES, FRAME_ORDER, PIXELS, PIXEL_ORDER, REFUSALS};
 use crate::random::Random;
 use crate::rules::{
     convert_pixel, converted, has_source, levels_forward, levels_reverse, output_depths,
@@ -15,6 +14,7 @@ use crate::rules::{
 };
 use crate::settings::{self, KINDS, LUMA_CODES};
 use crate::words::Words;
+use crate::worked::{EDGES, FRAMES, FRAME_ORDER, PIXELS, PIXEL_ORDER, REFUSALS};
 use std::fmt::Debug;
 
 /// What every part of the test gives: nothing, or the first mismatch in words.
@@ -43,6 +43,10 @@ pub fn run() -> Result<String, String> {
     test.frame_texts()?;
     Ok(format!("oracle: {} checks\n", test.checks))
 }
+
+/// How many bytes of cases the proved programs take: `room` in
+/// crates/cases/src/lib.rt. They would not see what goes beyond.
+const ROOM: usize = 1_000_000;
 
 /// How the first lines of frame answers start; the place of 10 by its plane.
 const FRAME_ANSWERS: [&str; 16] = [
@@ -330,8 +334,8 @@ impl Test {
             let answers = answer_text(&cases)?;
             let what = || format!("size of the frame cases of seed {}", seed);
             self.holds(&what, cases.lines().count() >= 2000)?;
-            self.holds(&what, cases.len() < 2_200_000)?;
-            self.holds(&what, cases.len() + answers.len() < 4_000_000)?;
+            self.holds(&what, cases.len() <= ROOM)?;
+            self.holds(&what, cases.len() + answers.len() < 2 * ROOM)?;
             self.holds(&what, cases.lines().all(|line| line.len() < 200_000))?;
             for start in FRAME_ANSWERS {
                 let what = || format!("'{}' among the answers of seed {}", start, seed);

@@ -1,10 +1,10 @@
-//! What the scope paper prints, typed in as cases with their answers, and a
-//! few lines of ours beside it for what it says in words.
+//! The rules' worked examples, typed in as cases with their answers, and lines
+//! of ours for what docs/RULES.md says in words.
 
 /// A case line and its answer; a frame answer has its lines in one text.
 pub type Line = (&'static str, &'static str);
 
-/// The paper's table of pixels. Where it leaves the flags open, both pairs of
+/// The worked pixels. Where an example leaves the flags open, both pairs of
 /// equal flags are here.
 pub const PIXELS: [Line; 22] = [
     ("f 1 1 8 8 8 9 0 0 255 0 0", "samples 63 129 511"),
@@ -101,7 +101,7 @@ pub const PIXEL_ORDER: [Line; 10] = [
     ("s 1 1 8 8 8 9 1 1 0 256 256", "yes"),
 ];
 
-/// The paper's frame, then the same frame back with a padding of noise, then
+/// The worked frame, then the same frame back with a padding of noise, then
 /// one with a bad sample in the last element of two planes, and image checks.
 pub const FRAMES: [Line; 9] = [
     (

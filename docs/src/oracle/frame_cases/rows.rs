@@ -1,0 +1,87 @@
+//! Refusals 1 to 7 and 11, and every set of rows broken at once.
+
+use super::frame::Frame;
+use super::{Cases, CALLS};
+use crate::rules::Setting;
+use crate::settings::{self, KINDS};
+
+impl Cases {
+    fn break_setting(&mut self, s: &mut Setting, row: u8) {
+        match row {
+            1 => s.matrix = self.random.pick(&[3, 17, 18, 128, 255]),
+            2 => s.matrix = 2,
+            3 => s.matrix = self.random.pick(&[10, 11, 12, 13, 14]),
+            _ => settings::break_row(&mut self.random, s, row),
+        }
+    }
+
+    /// Refusals 1 to 7 of every call, and 11 of the image check.
+    pub fn refused_settings(&mut self) {
+        for letter in CALLS {
+            for row in 1..=7 {
+                for _ in 0..10 {
+                    let size = self.small_size();
+                    let mut frame = self.some_frame(letter, size.height);
+                    self.break_setting(&mut frame.setting, row);
+                    self.write(&frame);
+                }
+            }
+        }
+        for kind in KINDS.iter().copied().filter(|kind| !kind.1) {
+            for _ in 0..6 {
+                let s = settings::good(&mut self.random, kind);
+                let size = self.small_size();
+                let mut frame = self.frame('R', s, size);
+                frame.letter = 'I';
+                self.write(&frame);
+            }
+        }
+    }
+
+    /// Every set of broken rows out of 1 to 7 (as one), 11, 8, 9 and 10.
+    pub fn several_rows_broken(&mut self) {
+        for letter in CALLS {
+            for set in 0..32 {
+                let not_lossless = set & 2 != 0;
+                if not_lossless && letter != 'I' {
+                    continue;
+                }
+                for _ in 0..4 {
+                    let frame = self.broken(letter, not_lossless, set);
+                    self.write(&frame);
+                }
+            }
+        }
+    }
+
+    fn broken(&mut self, letter: char, not_lossless: bool, set: u32) -> Frame {
+        let kind = if not_lossless {
+            self.random.pick(&[(1, false), (5, false), (8, false)])
+        } else {
+            self.kind_for(letter)
+        };
+        let s = self.shallow(kind);
+        let size = self.small_size();
+        let made_as = if not_lossless { 'R' } else { letter };
+        let mut frame = self.frame(made_as, s, size);
+        frame.letter = letter;
+        if set & 16 != 0 {
+            self.spoil_somewhere(&mut frame);
+        }
+        if set & 8 != 0 {
+            let plane = self.random.below(Cases::planes_of(letter) as u64) as usize;
+            let least = Cases::least_length(&frame, plane) as u64;
+            let length = self.random.below(least) as usize;
+            self.set_length(&mut frame, plane, length);
+        }
+        if set & 4 != 0 {
+            self.break_size(&mut frame);
+        }
+        if set & 1 != 0 {
+            // Often 7, the last row before those of sizes and samples.
+            let row = self.random.pick(&[1, 2, 3, 4, 5, 6, 7, 7, 7, 7]);
+            self.break_setting(&mut frame.setting, row);
+        }
+        frame
+    }
+}

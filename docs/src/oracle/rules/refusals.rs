@@ -1,0 +1,97 @@
+//! The rows of the refusal table that need no picture: 1 to 7, 11, and 10 for
+//! single pixels and samples.
+
+use super::labels::{matrix_label, primaries_label, transfer_label, Label};
+use super::numbers::within_depth;
+use super::setting::{is_lossless, luma_weights, Pixel, Setting};
+
+#[derive(Clone, Copy, Debug, PartialEq, Eq)]
+pub struct Place {
+    pub plane: usize,
+    pub row: usize,
+    pub column: usize,
+}
+
+#[derive(Clone, Copy, Debug, PartialEq, Eq)]
+pub enum Refusal {
+    /// Every number but 10.
+    Number(u8),
+    /// Number 10, with the first bad sample.
+    Sample(Place),
+}
+
+/// Refusals 1 to 7: the first row that holds decides.
+pub fn setting_refusal(s: &Setting) -> Result<(), Refusal> {
+    let rows = [
+        (1, matrix_label(s.matrix) == Label::Reserved),
+        (2, s.matrix == 2),
+        (3, (10..=14).contains(&s.matrix)),
+        (4, primaries_label(s.primaries) == Label::Reserved),
+        (5, transfer_label(s.transfer) == Label::Reserved),
+        (6, depth_not_served(s)),
+        (7, !depths_and_flags_agree(s)),
+    ];
+    match rows.iter().find(|row| row.1) {
+        Some(row) => Err(Refusal::Number(row.0)),
+        None => Ok(()),
+    }
+}
+
+fn depth_not_served(s: &Setting) -> bool {
+    let deepest = if luma_weights(s.matrix).is_some() {
+        12
+    } else {
+        16
+    };
+    [s.rgb_depth, s.y_depth, s.c_depth]
+        .iter()
+        .any(|&depth| depth < 8 || depth > deepest)
+}
+
+fn depths_and_flags_agree(s: &Setting) -> bool {
+    let rgb = i32::from(s.rgb_depth);
+    let y = i32::from(s.y_depth);
+    let c = i32::from(s.c_depth);
+    let same_flags = s.rgb_full == s.ycc_full;
+    match s.matrix {
+        0 => rgb == y && y == c && same_flags,
+        8 => rgb == y && (c == y || c == y + 1) && same_flags,
+        15 => y == c && y == rgb + 2 && same_flags,
+        16 => y == c && y == rgb + 1 && same_flags,
+        _ => c == y,
+    }
+}
+
+pub fn require_lossless(s: &Setting) -> Result<(), Refusal> {
+    if is_lossless(s) {
+        Ok(())
+    } else {
+        Err(Refusal::Number(11))
+    }
+}
+
+pub fn require_luma_matrix(s: &Setting) -> Result<(), Refusal> {
+    match luma_weights(s.matrix) {
+        Some(_) => Ok(()),
+        None => Err(Refusal::Number(11)),
+    }
+}
+
+/// Refusal 10 of calls without rows and columns.
+pub fn sample_refusal(plane: usize, value: u16, depth: u8) -> Result<(), Refusal> {
+    if within_depth(i128::from(value), depth) {
+        return Ok(());
+    }
+    Err(Refusal::Sample(Place {
+        plane,
+        row: 0,
+        column: 0,
+    }))
+}
+
+pub fn pixel_refusal(pixel: Pixel, depths: [u8; 3]) -> Result<(), Refusal> {
+    for plane in 0..3 {
+        sample_refusal(plane, pixel[plane], depths[plane])?;
+    }
+    Ok(())
+}
