@@ -11,7 +11,7 @@ use Rattle.setting.specs.declared.Call.{Call}
 use Rattle.setting.specs.declared.Call.the-variants as call
 use Rattle.setting.specs.declared.Setting.{Setting}
 use Rattle.setting.specs.declared.verdict.Verdict.{Verdict}
-use Rattle.meter.specs.Level.{planeOf}
+use Rattle.meter.specs.Level.{planeNumber}
 use Rattle.meter.specs.declared.SampleKind.{SampleKind}
 use Rattle.meter.specs.declared.SampleKind.the-variants as kind
 use Rattle.pixel.specs.declared.Way.{Way}
@@ -33,7 +33,7 @@ topOf kind.Cb d = M (d .chroma .0)
 topOf kind.Cr d = M (d .chroma .0)
 
 abbrev pub badOne : SampleKind → Depths → ℕ → Found
-badOne k d v = firstBad (v ∷ []) (planeOf k) 1 1 1 (topOf k d)
+badOne k d v = firstBad (v ∷ []) (planeNumber k) 1 1 1 (topOf k d)
 
 -- a call that is handed a whole pixel
 unfoldable pub admitted : Call → Way → Setting → Pixel → Verdict

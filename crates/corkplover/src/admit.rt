@@ -43,9 +43,9 @@ fn top_of(kind: SampleKind, d: Depths) -> u16
     ensures { λ r. ⌜ r ≡ topOf kind d ⌝ }
 {
     match kind {
-        SampleKind::Y => pixel::top_of(d.luma.0),
-        SampleKind::Cb => pixel::top_of(d.chroma.0),
-        SampleKind::Cr => pixel::top_of(d.chroma.0),
+        SampleKind::Y => d.luma.largest(),
+        SampleKind::Cb => d.chroma.largest(),
+        SampleKind::Cr => d.chroma.largest(),
     }
 }
 

@@ -58,12 +58,12 @@ askPixel call.Reverse s p = ofPixel (pixelAnswer Reverse s p)
 askPixel call.Meter s p = ofLevels (levelsAnswer s p)
 askPixel call.ImageCheck s p = ofSource (sourceAnswer s p)
 
-abbrev pub labelOf : CodeKind → ℕ → Label
-labelOf Primaries code = primariesLabel code
-labelOf Transfer code = transferLabel code
-labelOf Matrix code = matrixLabel code
+abbrev pub labelFor : CodeKind → ℕ → Label
+labelFor Primaries code = primariesLabel code
+labelFor Transfer code = transferLabel code
+labelFor Matrix code = matrixLabel code
 
 unfoldable pub answerTo : Request → Answer
 answerTo (request.Pixel c s p) = askPixel c s p
 answerTo (request.Sample k s v) = ofReading (reading k s v)
-answerTo (request.Label k code) = Labelled (labelOf k code)
+answerTo (request.Label k code) = Labelled (labelFor k code)

@@ -9,7 +9,7 @@ use Rattle.text.specs.Words.{split, wordOf, indexIn}
 use Rattle.text.specs.Numerals.{numberOf}
 use Rattle.text.specs.declared.reading.Number.{Number}
 use Rattle.text.specs.declared.reading.Number.the-variants as number
-use Rattle.meter.specs.Level.{planeOf}
+use Rattle.meter.specs.Level.{planeNumber}
 use Rattle.meter.specs.declared.SampleKind.{SampleKind}
 use Rattle.meter.specs.declared.SampleKind.the-variants.{Y, Cb, Cr}
 use Rattle.setting.specs.declared.Call.{Call}
@@ -30,60 +30,60 @@ abbrev pub clear : ℕ
 clear = 255
 
 -- a code or a depth, 0 to 255
-abbrev pub codeOf : ℕ → Number → CodeWord
-codeOf n (number.Value v) = record { value = v; fault = clear }
-codeOf n number.Nothing = record { value = 0; fault = n }
+abbrev pub codeTaken : ℕ → Number → CodeWord
+codeTaken n (number.Value v) = record { value = v; fault = clear }
+codeTaken n number.Nothing = record { value = 0; fault = n }
 
-abbrev pub codeAt : ℕ → List ℕ → ℕ → CodeWord
-codeAt gap s n = codeOf n (numberOf (wordOf gap s n) 255)
+abbrev pub codeFrom : ℕ → List ℕ → ℕ → CodeWord
+codeFrom gap s n = codeTaken n (numberOf (wordOf gap s n) 255)
 
 -- a sample, 0 to 65535
-abbrev pub sampleOf : ℕ → Number → SampleWord
-sampleOf n (number.Value v) = record { value = v; fault = clear }
-sampleOf n number.Nothing = record { value = 0; fault = n }
+abbrev pub sampleTaken : ℕ → Number → SampleWord
+sampleTaken n (number.Value v) = record { value = v; fault = clear }
+sampleTaken n number.Nothing = record { value = 0; fault = n }
 
-abbrev pub sampleAt : ℕ → List ℕ → ℕ → SampleWord
-sampleAt gap s n = sampleOf n (numberOf (wordOf gap s n) 65535)
+abbrev pub sampleFrom : ℕ → List ℕ → ℕ → SampleWord
+sampleFrom gap s n = sampleTaken n (numberOf (wordOf gap s n) 65535)
 
 -- a range, by its name or as 0 or 1
-abbrev pub rangeOf : ℕ → ℕ → RangeWord
-rangeOf n place = cond (ltb place 4) (record { full = eqb (place % 2) 1; fault = clear }) (record { full = false; fault = n })
+abbrev pub rangeTaken : ℕ → ℕ → RangeWord
+rangeTaken n place = cond (ltb place 4) (record { full = eqb (place % 2) 1; fault = clear }) (record { full = false; fault = n })
 
-abbrev pub rangeAt : ℕ → List ℕ → ℕ → RangeWord
-rangeAt gap s n = rangeOf n (indexIn (wordOf gap s n) (split 32 (ascii "narrow full 0 1")))
+abbrev pub rangeFrom : ℕ → List ℕ → ℕ → RangeWord
+rangeFrom gap s n = rangeTaken n (indexIn (wordOf gap s n) (split 32 (ascii "narrow full 0 1")))
 
 -- no word
-abbrev pub endAt : ℕ → List ℕ → ℕ → ℕ
-endAt gap s n = cond (ltb n (length (split gap s))) n clear
+abbrev pub endFrom : ℕ → List ℕ → ℕ → ℕ
+endFrom gap s n = cond (ltb n (length (split gap s))) n clear
 
 -- words 1 to 8
-unfoldable pub settingAt : ℕ → List ℕ → SettingWords
-settingAt gap s =
+unfoldable pub settingFrom : ℕ → List ℕ → SettingWords
+settingFrom gap s =
     record {
       setting =
           record {
-            primaries = codeAt gap s 1 .value;
-            transfer = codeAt gap s 2 .value;
-            matrix = codeAt gap s 3 .value;
-            «rgb_depth» = codeAt gap s 4 .value;
-            «y_depth» = codeAt gap s 5 .value;
-            «c_depth» = codeAt gap s 6 .value;
-            «rgb_full» = rangeAt gap s 7 .full;
-            «ycc_full» = rangeAt gap s 8 .full;
+            primaries = codeFrom gap s 1 .value;
+            transfer = codeFrom gap s 2 .value;
+            matrix = codeFrom gap s 3 .value;
+            «rgb_depth» = codeFrom gap s 4 .value;
+            «y_depth» = codeFrom gap s 5 .value;
+            «c_depth» = codeFrom gap s 6 .value;
+            «rgb_full» = rangeFrom gap s 7 .full;
+            «ycc_full» = rangeFrom gap s 8 .full;
           };
       fault =
           min
-          (min (min (min (codeAt gap s 1 .fault) (codeAt gap s 2 .fault)) (codeAt gap s 3 .fault))
-          (min (min (codeAt gap s 4 .fault) (codeAt gap s 5 .fault)) (codeAt gap s 6 .fault)))
-          (min (rangeAt gap s 7 .fault) (rangeAt gap s 8 .fault));
+          (min (min (min (codeFrom gap s 1 .fault) (codeFrom gap s 2 .fault)) (codeFrom gap s 3 .fault))
+          (min (min (codeFrom gap s 4 .fault) (codeFrom gap s 5 .fault)) (codeFrom gap s 6 .fault)))
+          (min (rangeFrom gap s 7 .fault) (rangeFrom gap s 8 .fault));
     }
 
 -- words 9 to 11
-unfoldable pub pixelAt : ℕ → List ℕ → PixelWords
-pixelAt gap s =
+unfoldable pub pixelFrom : ℕ → List ℕ → PixelWords
+pixelFrom gap s =
     record {
-      pixel = record { p0 = sampleAt gap s 9 .value; p1 = sampleAt gap s 10 .value; p2 = sampleAt gap s 11 .value };
-      fault = min (min (sampleAt gap s 9 .fault) (sampleAt gap s 10 .fault)) (sampleAt gap s 11 .fault);
+      pixel = record { p0 = sampleFrom gap s 9 .value; p1 = sampleFrom gap s 10 .value; p2 = sampleFrom gap s 11 .value };
+      fault = min (min (sampleFrom gap s 9 .fault) (sampleFrom gap s 10 .fault)) (sampleFrom gap s 11 .fault);
     }
 
 -- what is expected of a word, by number: 1 to 8 a setting's word, 9 to 11 R, G, B, 12 to 14 Y, Cb, Cr,
@@ -111,19 +111,19 @@ pixelAsked call w p fault =
 
 unfoldable pub pixelForm : Call → ℕ → List ℕ → Asked
 pixelForm call gap s =
-    pixelAsked call (settingAt gap s) (pixelAt gap s)
-    (min (min (settingAt gap s .fault) (pixelAt gap s .fault)) (endAt gap s 12))
+    pixelAsked call (settingFrom gap s) (pixelFrom gap s)
+    (min (min (settingFrom gap s .fault) (pixelFrom gap s .fault)) (endFrom gap s 12))
 
 -- a request about one sample, word n
 abbrev pub sampleAsked : SampleKind → SettingWords → SampleWord → ℕ → ℕ → Asked
 sampleAsked kind w v n fault =
     cond (eqb fault clear) (For (request.Sample kind (w .setting) (v .value)))
-    (Fault fault (cond (ltb fault 9) fault (cond (eqb fault n) (12 + planeOf kind) 18)))
+    (Fault fault (cond (ltb fault 9) fault (cond (eqb fault n) (12 + planeNumber kind) 18)))
 
 unfoldable pub sampleForm : SampleKind → ℕ → List ℕ → ℕ → Asked
 sampleForm kind gap s n =
-    sampleAsked kind (settingAt gap s) (sampleAt gap s n) n
-    (min (min (settingAt gap s .fault) (sampleAt gap s n .fault)) (endAt gap s (n + 1)))
+    sampleAsked kind (settingFrom gap s) (sampleFrom gap s n) n
+    (min (min (settingFrom gap s .fault) (sampleFrom gap s n .fault)) (endFrom gap s (n + 1)))
 
 -- a request about a code, word n
 abbrev pub labelAsked : CodeKind → CodeWord → ℕ → ℕ → Asked
@@ -131,4 +131,4 @@ labelAsked kind w n fault =
     cond (eqb fault clear) (For (request.Label kind (w .value))) (Fault fault (cond (eqb fault n) 17 18))
 
 unfoldable pub labelForm : CodeKind → ℕ → List ℕ → ℕ → Asked
-labelForm kind gap s n = labelAsked kind (codeAt gap s n) n (min (codeAt gap s n .fault) (endAt gap s (n + 1)))
+labelForm kind gap s n = labelAsked kind (codeFrom gap s n) n (min (codeFrom gap s n .fault) (endFrom gap s (n + 1)))

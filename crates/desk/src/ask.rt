@@ -1,7 +1,7 @@
 // Every request is passed on to its entry point, and the answers come back as one type. A level is handed on as its bits.
 ghost use mathlib.Core.Path.{_≡_};
 ghost use Rattle.corkplover.specs.Answers.{reading};
-ghost use Rattle.desk.specs.Answers.{NumberIn, NumbersIn, ofPixel, ofSource, ofReading, ofLevels, askPixel, labelOf, answerTo};
+ghost use Rattle.desk.specs.Answers.{NumberIn, NumbersIn, ofPixel, ofSource, ofReading, ofLevels, askPixel, labelFor, answerTo};
 use crate::CodeKind;
 use crate::Request;
 use corkplover::labels;
@@ -88,7 +88,7 @@ fn ask_sample(kind: SampleKind, s: Setting, v: u16) -> Answer
 }
 
 fn label_of(kind: CodeKind, code: u8) -> Label
-    ensures { λ r. ⌜ r ≡ labelOf kind code ⌝ }
+    ensures { λ r. ⌜ r ≡ labelFor kind code ⌝ }
 {
     match kind {
         CodeKind::Primaries => labels::primaries_label(code),

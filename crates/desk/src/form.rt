@@ -1,7 +1,7 @@
 // Reading the words of a request. Word 0 says what is asked, words 1 to 8 are the setting, and the samples follow it.
 ghost use mathlib.Core.Path.{_≡_};
 ghost use Prim.Native.Nat.{_<_, min};
-ghost use Rattle.desk.specs.Form.{codeAt, rangeAt, sampleAt, endAt, settingAt, pixelAt, expectedAt, kindOf, codeKindOf, pixelForm, sampleForm, labelForm};
+ghost use Rattle.desk.specs.Form.{codeFrom, rangeFrom, sampleFrom, endFrom, settingFrom, pixelFrom, expectedAt, kindOf, codeKindOf, pixelForm, sampleForm, labelForm};
 use crate::CodeKind;
 use crate::Request;
 use meter::SampleKind;
@@ -60,7 +60,7 @@ struct PixelWords {
 }
 
 fn code_at(s: &[u8], gap: u8, n: u8) -> CodeWord
-    ensures { λ r. ⌜ r ≡ codeAt gap (now (s .entry)) n ⌝ }
+    ensures { λ r. ⌜ r ≡ codeFrom gap (now (s .entry)) n ⌝ }
 {
     match reading::number_at(s, gap, n, 255) {
         Number::Value(v) => CodeWord {
@@ -73,7 +73,7 @@ fn code_at(s: &[u8], gap: u8, n: u8) -> CodeWord
 
 // `full` and `narrow`, or 1 and 0 as in a case line.
 fn range_at(s: &[u8], gap: u8, n: u8) -> RangeWord
-    ensures { λ r. ⌜ r ≡ rangeAt gap (now (s .entry)) n ⌝ }
+    ensures { λ r. ⌜ r ≡ rangeFrom gap (now (s .entry)) n ⌝ }
 {
     let place = reading::place_at(s, gap, n, b"narrow full 0 1");
     if place < 4 {
@@ -89,7 +89,7 @@ fn range_at(s: &[u8], gap: u8, n: u8) -> RangeWord
 }
 
 fn sample_at(s: &[u8], gap: u8, n: u8) -> SampleWord
-    ensures { λ r. ⌜ r ≡ sampleAt gap (now (s .entry)) n ⌝ }
+    ensures { λ r. ⌜ r ≡ sampleFrom gap (now (s .entry)) n ⌝ }
 {
     match reading::number_at(s, gap, n, 65535) {
         Number::Value(value) => SampleWord {
@@ -102,7 +102,7 @@ fn sample_at(s: &[u8], gap: u8, n: u8) -> SampleWord
 
 // The words must have ended.
 fn end_at(s: &[u8], gap: u8, n: u8) -> u8
-    ensures { λ r. ⌜ r ≡ endAt gap (now (s .entry)) n ⌝ }
+    ensures { λ r. ⌜ r ≡ endFrom gap (now (s .entry)) n ⌝ }
 {
     if reading::has_word(s, gap, n) {
         n
@@ -119,7 +119,7 @@ fn earlier(a: u8, b: u8) -> u8
 }
 
 fn setting_at(s: &[u8], gap: u8) -> SettingWords
-    ensures { λ r. ⌜ r ≡ settingAt gap (now (s .entry)) ⌝ }
+    ensures { λ r. ⌜ r ≡ settingFrom gap (now (s .entry)) ⌝ }
 {
     let primaries = code_at(s, gap, 1);
     let transfer = code_at(s, gap, 2);
@@ -147,7 +147,7 @@ fn setting_at(s: &[u8], gap: u8) -> SettingWords
 }
 
 fn pixel_at(s: &[u8], gap: u8) -> PixelWords
-    ensures { λ r. ⌜ r ≡ pixelAt gap (now (s .entry)) ⌝ }
+    ensures { λ r. ⌜ r ≡ pixelFrom gap (now (s .entry)) ⌝ }
 {
     let a = sample_at(s, gap, 9);
     let b = sample_at(s, gap, 10);

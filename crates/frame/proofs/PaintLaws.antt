@@ -15,12 +15,12 @@ use Rattle.pixel.specs.Pixel.{convert}
 use Rattle.pixel.specs.declared.Way.{Way}
 use Rattle.picture.specs.Picture.{Picture, sideOfPicture, pixelOf, EveryPixel}
 use Rattle.row.specs.Row.{Abreast, Every, pixelIn, sampleOf, rowOf}
-use Rattle.frame.specs.Frame.{part, convertedSample, convertedPlane}
+use Rattle.frame.specs.Frame.{rowPart, convertedSample, convertedPlane}
 
 -- six parts of one width
 pub parts-abreast : (a0 a1 a2 b0 b1 b2 : List ℕ) (from to width : ℕ)
     → Long (from + width) (length a0) (length a1) (length a2) → Long (to + width) (length b0) (length b1) (length b2)
-    → Abreast (part a0 from width) (part a1 from width) (part a2 from width) (part b0 to width) (part b1 to width) (part b2 to width)
+    → Abreast (rowPart a0 from width) (rowPart a1 from width) (rowPart a2 from width) (rowPart b0 to width) (rowPart b1 to width) (rowPart b2 to width)
 parts-abreast a0 a1 a2 b0 b1 b2 from to width h k =
     let n = part-width a0 from width (h .long0) in
     record {
@@ -34,7 +34,7 @@ parts-abreast a0 a1 a2 b0 b1 b2 from to width h k =
 -- row j of a picture, as parts of its planes from the row's start
 module _ (a : Picture) (j from : ℕ) (starts : from ≡ j * a .stride) where
   pub part-pixel : (i : ℕ) → i < a .width
-      → pixelIn (part (a .p0) from (a .width)) (part (a .p1) from (a .width)) (part (a .p2) from (a .width)) i ≡ pixelOf a j i
+      → pixelIn (rowPart (a .p0) from (a .width)) (rowPart (a .p1) from (a .width)) (rowPart (a .p2) from (a .width)) i ≡ pixelOf a j i
   part-pixel i h =
       rw (
         part-sample (a .p0) (a .stride) j from (a .width) i starts h,
@@ -43,7 +43,7 @@ module _ (a : Picture) (j from : ℕ) (starts : from ≡ j * a .stride) where
       )
 
   pub part-every : (fact : Pixel → Type 0) → EveryPixel fact a → j < a .height → from + a .width ≤ length (a .p0)
-      → Every fact (part (a .p0) from (a .width)) (part (a .p1) from (a .width)) (part (a .p2) from (a .width))
+      → Every fact (rowPart (a .p0) from (a .width)) (rowPart (a .p1) from (a .width)) (rowPart (a .p2) from (a .width))
   part-every fact e l h i b =
       let k : i < a .width = omega (arith, part-width (a .p0) from (a .width) h) in
       subst fact (sym (part-pixel i k)) (e j i l k)
@@ -87,7 +87,7 @@ module _ {way : Way} {s : Served} {a : Picture} {b : Side} {y0 y1 y2 : List ℕ}
 
   -- row n of the three that are made of the source parts
   abbrev made : ℕ → List ℕ
-  made n = rowOf n (convert way s) (part (a .p0) from (a .width)) (part (a .p1) from (a .width)) (part (a .p2) from (a .width))
+  made n = rowOf n (convert way s) (rowPart (a .p0) from (a .width)) (rowPart (a .p1) from (a .width)) (rowPart (a .p2) from (a .width))
 
   -- y was zeroed up to the row, and then had the row put into its own part
   turned : (n l : ℕ) (y z w : List ℕ) → to + a .width ≤ l → Painted (b .stride) (a .width) (a .height) (convertedSample n way s a) l y j done

@@ -31,13 +31,13 @@ outputOf z n0 n1 n2 = sideOf (z .«output_stride») n0 n1 n2
 abbrev pub frameVerdict : Way → Setting → Picture → Side → Verdict
 frameVerdict way s a b = pictureVerdict (callOf way) way s a (b ∷ [])
 
-abbrev pub answerBy : Verdict → FrameAnswer
-answerBy (verdict.Served x) = Done
-answerBy (verdict.Refused r) = Refused r
+abbrev pub frameBy : Verdict → FrameAnswer
+frameBy (verdict.Served x) = Done
+frameBy (verdict.Refused r) = Refused r
 
 -- THE answer of a conversion
 unfoldable pub frameAnswer : Way → Setting → Picture → Side → FrameAnswer
-frameAnswer way s a b = answerBy (frameVerdict way s a b)
+frameAnswer way s a b = frameBy (frameVerdict way s a b)
 
 -- the sample of plane k at row j and column i, converted
 abbrev pub convertedSample : ℕ → Way → Served → Picture → ℕ → ℕ → ℕ
@@ -68,5 +68,5 @@ abbrev pub FrameLeft : Way → Setting → Picture → Side → FrameAnswer → 
 FrameLeft way s a b x p0 p1 p2 = (x ≡ frameAnswer way s a b) × PlanesLeft way s a b p0 p1 p2
 
 -- the part of a plane that is a row of n samples from index a
-abbrev pub part : List ℕ → ℕ → ℕ → List ℕ
-part p a n = take (a + n - a) (drop a p)
+abbrev pub rowPart : List ℕ → ℕ → ℕ → List ℕ
+rowPart p a n = take (a + n - a) (drop a p)

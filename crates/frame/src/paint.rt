@@ -8,7 +8,7 @@ ghost use Rattle.pixel.specs.Pixel.{convert, preparedFor, InsideSource};
 ghost use Rattle.pixel.specs.Ready.{Ready};
 ghost use Rattle.picture.specs.Picture.{sideOfPicture, EveryPixel};
 ghost use Rattle.row.specs.Row.{Every, rowOf};
-ghost use Rattle.frame.specs.Frame.{sourceOf, outputOf, part, convertedPlane};
+ghost use Rattle.frame.specs.Frame.{sourceOf, outputOf, rowPart, convertedPlane};
 use crate::Size;
 use pixel::Prepared;
 use pixel::Way;
@@ -34,10 +34,10 @@ fn paint_row(
     requires { ⌜ prepared ≡ preparedFor way s ⌝ }
     requires { ⌜ Long (from + width) (length (now a0)) (length (now a1)) (length (now a2)) ⌝ }
     requires { ⌜ Long (to + width) (length (now b0)) (length (now b1)) (length (now b2)) ⌝ }
-    requires { ⌜ Every (InsideSource way (s .depths)) (part (now a0) from width) (part (now a1) from width) (part (now a2) from width) ⌝ }
-    ensures { λ _. ⌜ now (b0 .exit) ≡ patched (now (b0 .entry)) to (to + width) (rowOf 0 (convert way s) (part (now (a0 .entry)) from width) (part (now (a1 .entry)) from width) (part (now (a2 .entry)) from width)) ⌝ }
-    ensures { λ _. ⌜ now (b1 .exit) ≡ patched (now (b1 .entry)) to (to + width) (rowOf 1 (convert way s) (part (now (a0 .entry)) from width) (part (now (a1 .entry)) from width) (part (now (a2 .entry)) from width)) ⌝ }
-    ensures { λ _. ⌜ now (b2 .exit) ≡ patched (now (b2 .entry)) to (to + width) (rowOf 2 (convert way s) (part (now (a0 .entry)) from width) (part (now (a1 .entry)) from width) (part (now (a2 .entry)) from width)) ⌝ }
+    requires { ⌜ Every (InsideSource way (s .depths)) (rowPart (now a0) from width) (rowPart (now a1) from width) (rowPart (now a2) from width) ⌝ }
+    ensures { λ _. ⌜ now (b0 .exit) ≡ patched (now (b0 .entry)) to (to + width) (rowOf 0 (convert way s) (rowPart (now (a0 .entry)) from width) (rowPart (now (a1 .entry)) from width) (rowPart (now (a2 .entry)) from width)) ⌝ }
+    ensures { λ _. ⌜ now (b1 .exit) ≡ patched (now (b1 .entry)) to (to + width) (rowOf 1 (convert way s) (rowPart (now (a0 .entry)) from width) (rowPart (now (a1 .entry)) from width) (rowPart (now (a2 .entry)) from width)) ⌝ }
+    ensures { λ _. ⌜ now (b2 .exit) ≡ patched (now (b2 .entry)) to (to + width) (rowOf 2 (convert way s) (rowPart (now (a0 .entry)) from width) (rowPart (now (a1 .entry)) from width) (rowPart (now (a2 .entry)) from width)) ⌝ }
 {
     let from_end = from + width;
     let to_end = to + width;

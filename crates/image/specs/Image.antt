@@ -29,10 +29,10 @@ abbrev pub answerFound : Found → ImageAnswer
 answerFound (found.At place) = NoSource place
 answerFound found.Nothing = Yes
 
-abbrev pub answerBy : Verdict → Picture → ImageAnswer
-answerBy (verdict.Served x) a = answerFound (firstSourceless x a)
-answerBy (verdict.Refused r) a = Refused r
+abbrev pub imageBy : Verdict → Picture → ImageAnswer
+imageBy (verdict.Served x) a = answerFound (firstSourceless x a)
+imageBy (verdict.Refused r) a = Refused r
 
 -- THE answer of the image check
 unfoldable pub imageAnswer : Setting → Picture → ImageAnswer
-imageAnswer s a = answerBy (pictureVerdict call.ImageCheck Reverse s a []) a
+imageAnswer s a = imageBy (pictureVerdict call.ImageCheck Reverse s a []) a

@@ -8,7 +8,7 @@ use Rattle.sample.specs.declared.Pixel.{Pixel}
 use Rattle.levels.specs.Paper.{level}
 use Rattle.levels.specs.Luma.{LumaServed, rgbOf, lumaOf, chromaOf, lumaForward, lumaReverse}
 use Rattle.levels.specs.Rows.{rowY, rowPB, rowPR, rowR, rowG, rowB}
-use Rattle.levels.specs.Lines.{source, read, sourcesOfRgb, sourcesOfYcc, pixelOf, forwardLines, reverseLines}
+use Rattle.levels.specs.Lines.{source, read, sourcesOfRgb, sourcesOfYcc, linesPixel, forwardLines, reverseLines}
 use Rattle.levels.specs.declared.LumaSetting.{LumaSetting}
 use Rattle.levels.specs.declared.Weights.{Weights}
 use Rattle.levels.proofs.Formulas.{y-value, pb-value, pr-value, r-value, g-value, b-value}
@@ -30,7 +30,7 @@ module _ (s : LumaSetting) (h : LumaServed s) (p : Pixel) where
   of-chroma : (v : ℕ) → Value (level (chromaOf s) v) (read (source (lumaOf s .times) (chromaOf s .plus)) v) (chromaOf s .times * lumaOf s .times)
   of-chroma v = chroma-value (lumaOf s) (chromaOf s) v (chroma-served s h .some)
 
-  pub forward-law : pixelOf (forwardLines s) p ≡ lumaForward s p
+  pub forward-law : linesPixel (forwardLines s) p ≡ lumaForward s p
   unfolding forwardLines lumaForward
   forward-law =
       let r = of-rgb (p .p0) in
@@ -46,7 +46,7 @@ module _ (s : LumaSetting) (h : LumaServed s) (p : Pixel) where
         p2 = cr (s .«ycc_full») (s .depths .chroma) i;
       }
 
-  pub reverse-law : pixelOf (reverseLines s) p ≡ lumaReverse s p
+  pub reverse-law : linesPixel (reverseLines s) p ≡ lumaReverse s p
   unfolding reverseLines lumaReverse
   reverse-law =
       let y = of-luma (p .p0) in

@@ -16,7 +16,7 @@ use Rattle.sample.specs.declared.Pixel.{Pixel}
 use Rattle.sample.specs.Depth.{M, H}
 use Rattle.levels.specs.Paper.{S, lightScale, chromaScale, level, written, writtenChroma}
 use Rattle.levels.specs.Rows.{sumOf}
-use Rattle.levels.specs.Lines.{targetOf, wrote, source, read, lineOf, lineAt, sampleOf}
+use Rattle.levels.specs.Lines.{targetOf, wroteLevel, source, read, lineOf, lineAt, lineSample}
 use Rattle.levels.specs.declared.Scale.{Scale}
 use Rattle.levels.specs.declared.rows.Row.{Row}
 use Rattle.levels.specs.declared.prepared.Sources.{Sources}
@@ -58,11 +58,11 @@ module _ {e : Frac} {z : ℤ} {n : ℕ} (h : Value e z n) (n-some : 0 < n) where
       (⊗-value (pos s) 1 (omega arith) (⊕-value (rename refl (one-mul n) (⊗-value (pos m) 1 (omega arith) h)) (whole-value o))))
       n-some
 
-  written-law : (f : Bool) (d : ℕ) → written f d e ≡ wrote (targetOf f (lightScale f d) d) z n
+  written-law : (f : Bool) (d : ℕ) → written f d e ≡ wroteLevel (targetOf f (lightScale f d) d) z n
   written-law true d = ap (clip (M d)) (full (M d) ∙ sym (+ℤ-idr _))
   written-law false d = ap (clip (M d)) (narrow (S d) 219 16 ∙ sym (+ℤ-idr _))
 
-  written-chroma-law : (f : Bool) (d : ChromaDepth) → writtenChroma f d e ≡ wrote (targetOf f (chromaScale f d) (d .0)) z n
+  written-chroma-law : (f : Bool) (d : ChromaDepth) → writtenChroma f d e ≡ wroteLevel (targetOf f (chromaScale f d) (d .0)) z n
   written-chroma-law true d = ap (λ x. clip (M (d .0)) (x +ℤ pos (H (d .0)))) (full (M (d .0)))
   written-chroma-law false d = ap (clip (M (d .0))) (narrow (S (d .0)) 224 128 ∙ sym (+ℤ-idr _))
 
@@ -88,14 +88,14 @@ line-law w from to p =
     (p .p0) (p .p1) (p .p2) (to .plus * (w .over * from .common)))
 
 sample-law : (w : Row) (from : Sources) (to : Target) (p : Pixel)
-    → sampleOf (lineOf w from to) p ≡ wrote to (rowAt w from p) (w .over * from .common)
+    → lineSample (lineOf w from to) p ≡ wroteLevel to (rowAt w from p) (w .over * from .common)
 sample-law w from to p =
     ap (λ x. clip (to .top) (round x (w .over * from .common) +ℤ pos (to .mid))) (line-law w from to p)
 
 -- The two closing laws: where a level has a row's value, the row's line gives the sample that the level is written as.
 module _ (w : Row) (from : Sources) (p : Pixel) {e : Frac} (v : Value e (rowAt w from p) (w .over * from .common)) (some : 0 < w .over * from .common) where
-  pub light-sample : (f : Bool) (d : ℕ) → sampleOf (lineOf w from (targetOf f (lightScale f d) d)) p ≡ written f d e
+  pub light-sample : (f : Bool) (d : ℕ) → lineSample (lineOf w from (targetOf f (lightScale f d) d)) p ≡ written f d e
   light-sample f d = sample-law w from (targetOf f (lightScale f d) d) p ∙ sym (written-law v some f d)
 
-  pub chroma-sample : (f : Bool) (d : ChromaDepth) → sampleOf (lineOf w from (targetOf f (chromaScale f d) (d .0))) p ≡ writtenChroma f d e
+  pub chroma-sample : (f : Bool) (d : ChromaDepth) → lineSample (lineOf w from (targetOf f (chromaScale f d) (d .0))) p ≡ writtenChroma f d e
   chroma-sample f d = sample-law w from (targetOf f (chromaScale f d) (d .0)) p ∙ sym (written-chroma-law v some f d)

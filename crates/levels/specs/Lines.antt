@@ -31,8 +31,8 @@ abbrev pub chromaTarget : LumaSetting → Target
 chromaTarget s = targetOf (s .«ycc_full») (chromaOf s) (s .depths .chroma .0)
 
 -- a level z / n, written
-abbrev pub wrote : Target → ℤ → ℕ → ℕ
-wrote t z n = clip (t .top) (round (pos (t .times) *ℤ z +ℤ pos (t .plus * n)) n +ℤ pos (t .mid))
+abbrev pub wroteLevel : Target → ℤ → ℕ → ℕ
+wroteLevel t z n = clip (t .top) (round (pos (t .times) *ℤ z +ℤ pos (t .plus * n)) n +ℤ pos (t .mid))
 
 abbrev pub source : ℕ → ℕ → Source
 source mul plus = record { mul = mul; plus = plus }
@@ -80,11 +80,11 @@ lineOf w from to =
 abbrev pub lineAt : Line → Pixel → ℤ
 lineAt l p = sumOf (l .row) (pos (p .p0)) (pos (p .p1)) (pos (p .p2)) +ℤ (pos (l .up) -ℤ pos (l .down))
 
-abbrev pub sampleOf : Line → Pixel → ℕ
-sampleOf l p = clip (l .top) (round (lineAt l p) (l .row .over) +ℤ pos (l .mid))
+abbrev pub lineSample : Line → Pixel → ℕ
+lineSample l p = clip (l .top) (round (lineAt l p) (l .row .over) +ℤ pos (l .mid))
 
-abbrev pub pixelOf : Lines → Pixel → Pixel
-pixelOf l p = record { p0 = sampleOf (l .first) p; p1 = sampleOf (l .second) p; p2 = sampleOf (l .third) p }
+abbrev pub linesPixel : Lines → Pixel → Pixel
+linesPixel l p = record { p0 = lineSample (l .first) p; p1 = lineSample (l .second) p; p2 = lineSample (l .third) p }
 
 -- the lines of a setting
 unfoldable pub forwardLines : LumaSetting → Lines

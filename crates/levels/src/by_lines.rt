@@ -5,7 +5,7 @@ use sample::Pixel;
 use whole::quotient::Divisor;
 ghost use mathlib.Core.Path.{_≡_};
 ghost use Rattle.levels.specs.Luma.{SamplesServed};
-ghost use Rattle.levels.specs.Lines.{sampleOf, pixelOf};
+ghost use Rattle.levels.specs.Lines.{lineSample, linesPixel};
 ghost use Rattle.levels.specs.Room.{Room, Rooms, StandsFor};
 
 // What stands for a line's divisor, which is twice its denominator. It is worked out once for many pixels.
@@ -23,7 +23,7 @@ pub fn sample_by(l: Line, by: Divisor, p: Pixel) -> u16
     requires { ⌜ Room l ⌝ }
     requires { ⌜ StandsFor l by ⌝ }
     requires { ⌜ SamplesServed p ⌝ }
-    ensures { λ r. ⌜ r ≡ sampleOf l p ⌝ }
+    ensures { λ r. ⌜ r ≡ lineSample l p ⌝ }
 {
     let row = l.row;
     let up = l.up;
@@ -49,7 +49,7 @@ pub fn sample_by(l: Line, by: Divisor, p: Pixel) -> u16
 fn sample_of(l: Line, p: Pixel) -> u16
     requires { ⌜ Room l ⌝ }
     requires { ⌜ SamplesServed p ⌝ }
-    ensures { λ r. ⌜ r ≡ sampleOf l p ⌝ }
+    ensures { λ r. ⌜ r ≡ lineSample l p ⌝ }
 {
     let by = divisor_of(l);
     sample_by(l, by, p)
@@ -59,7 +59,7 @@ fn sample_of(l: Line, p: Pixel) -> u16
 pub fn pixel_of(lines: Lines, p: Pixel) -> Pixel
     requires { ⌜ Rooms lines ⌝ }
     requires { ⌜ SamplesServed p ⌝ }
-    ensures { λ r. ⌜ r ≡ pixelOf lines p ⌝ }
+    ensures { λ r. ⌜ r ≡ linesPixel lines p ⌝ }
 {
     let first = lines.first;
     let second = lines.second;

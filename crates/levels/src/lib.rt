@@ -80,7 +80,7 @@ fn light_scale(full: bool, depth: u8) -> Scale
     ensures { λ r. ⌜ r ≡ lightScale full depth ⌝ }
 {
     if full {
-        let times = prepared::largest(depth);
+        let times = sample::largest(depth) as u64;
         return Scale { times, plus: 0 };
     }
     let step = sample::power(depth - 8) as u64;
@@ -109,7 +109,7 @@ pub fn chroma_scale(full: bool, d: ChromaDepth) -> Scale
 {
     let depth = d.0;
     if full {
-        let times = prepared::largest(depth);
+        let times = sample::largest(depth) as u64;
         let plus = sample::power(depth - 1) as u64;
         return Scale { times, plus };
     }

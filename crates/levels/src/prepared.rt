@@ -29,15 +29,6 @@ pub struct Sources {
     pub common: u64,
 }
 
-// M, the largest sample of a depth.
-pub fn largest(depth: u8) -> u64
-    requires { ⌜ Depth depth ⌝ }
-    ensures { λ r. ⌜ r ≡ M depth ⌝ }
-{
-    let count = sample::power(depth) as u64;
-    count - 1
-}
-
 // What a scale takes away is added again: before Round where the range is narrow, after it where it is full.
 pub fn target_of(full: bool, s: Scale, depth: u8) -> Target
     requires { ⌜ Depth depth ⌝ }
@@ -45,7 +36,7 @@ pub fn target_of(full: bool, s: Scale, depth: u8) -> Target
 {
     let times = s.times;
     let plus = s.plus;
-    let top = largest(depth);
+    let top = sample::largest(depth) as u64;
     if full {
         return Target {
             times,

@@ -1,5 +1,5 @@
-// The six formulas as rows: three weights over one denominator, each weight as what it adds less what it takes away, so that
-// the code never meets a number below zero.
+// The six formulas as rows: three weights and a denominator. A weight is held in two parts, one that adds and one that takes away, and the
+// code never meets a number below zero.
 use crate::Weights;
 ghost use mathlib.Core.Path.{_≡_};
 ghost use Rattle.levels.specs.Luma.{Shares};

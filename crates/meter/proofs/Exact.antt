@@ -13,7 +13,7 @@ use lib.Ieee.Back.{round-whole}
 use lib.Ieee.Scale.{round-same}
 use Rattle.whole.proofs.Difference.{Holds, subtracted}
 use Rattle.levels.specs.declared.Scale.{Scale}
-use Rattle.meter.specs.Level.{quotient, IsExactly, nearestTo, IsNumber, Measurable}
+use Rattle.meter.specs.Level.{floatQuotient, IsExactly, nearestTo, IsNumber, Measurable}
 
 -- Whole numbers of up to 24 bits.
 pub in-float : (z : ℤ) → natAbs z ≤ 2 ^ 24 → T (inFloat binary32 z)
@@ -64,7 +64,7 @@ over : (z : ℤ) (n : ℕ) → natAbs z ≤ 2 ^ 24 → 0 < n → n ≤ 2 ^ 24 �
 over (pos m) n h p q = divided binary32 _ _ false m n p (exact (pos m) h) (exact (pos n) q)
 over (negsuc m) n h p q = divided binary32 _ _ true (suc m) n p (exact (negsuc m) h) (exact (pos n) q)
 
-pub one-rounding : (v : ℕ) (s : Scale) → v ≤ 65536 → Measurable s → quotient v s ≡ nearestTo (pos v -ℤ pos (s .plus)) (s .times)
+pub one-rounding : (v : ℕ) (s : Scale) → v ≤ 65536 → Measurable s → floatQuotient v s ≡ nearestTo (pos v -ℤ pos (s .plus)) (s .times)
 one-rounding v s l h = over (pos v -ℤ pos (s .plus)) (s .times) (numerator-size v s l h) (h .some) (omega arith)
 
 -- What `f32::to_bits` asks of a level.
@@ -91,6 +91,6 @@ nearest-number : (z : ℤ) (n : ℕ) → IsNumber (nearestTo z n)
 nearest-number (pos m) n = round-number binary32 false m n
 nearest-number (negsuc m) n = round-number binary32 true (suc m) n
 
-pub is-number : (v : ℕ) (s : Scale) → v ≤ 65536 → Measurable s → IsNumber (quotient v s)
+pub is-number : (v : ℕ) (s : Scale) → v ≤ 65536 → Measurable s → IsNumber (floatQuotient v s)
 is-number v s l h =
     subst IsNumber (sym (one-rounding v s l h)) (nearest-number (pos v -ℤ pos (s .plus)) (s .times))

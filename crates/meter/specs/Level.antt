@@ -1,4 +1,4 @@
--- A level is the single float quotient of a sample's numerator and denominator.
+-- A level: a sample's numerator over its denominator, both as floats, divided once.
 use mathlib.Core.Bool.{Bool, true, false, not}
 use Prim.Native.Nat.{ℕ, suc, _≤_, _<_}
 use lib.Dec.{T}
@@ -15,14 +15,14 @@ use Rattle.meter.specs.declared.SampleKind.{SampleKind}
 use Rattle.meter.specs.declared.SampleKind.the-variants.{Y, Cb, Cr}
 
 -- (v - plus) / times, each made a float and then divided once
-abbrev pub quotient : ℕ → Scale → Float
-quotient v s = div binary32 (ofInt binary32 (pos v -ℤ pos (s .plus))) (ofInt binary32 (pos (s .times)))
+abbrev pub floatQuotient : ℕ → Scale → Float
+floatQuotient v s = div binary32 (ofInt binary32 (pos v -ℤ pos (s .plus))) (ofInt binary32 (pos (s .times)))
 
 -- the plane of a kind of sample
-abbrev pub planeOf : SampleKind → ℕ
-planeOf Y = 0
-planeOf Cb = 1
-planeOf Cr = 2
+abbrev pub planeNumber : SampleKind → ℕ
+planeNumber Y = 0
+planeNumber Cb = 1
+planeNumber Cr = 2
 
 -- the scale of a kind of sample
 abbrev pub scaleOf : SampleKind → Bool → LumaDepth → ChromaDepth → Scale
@@ -32,7 +32,7 @@ scaleOf Cr full luma chroma = chromaScale full chroma
 
 -- the level of a sample of a kind
 unfoldable pub levelOf : SampleKind → Bool → LumaDepth → ChromaDepth → ℕ → Float
-levelOf kind full luma chroma v = quotient v (scaleOf kind full luma chroma)
+levelOf kind full luma chroma v = floatQuotient v (scaleOf kind full luma chroma)
 
 -- the levels of a pixel, by plane
 unfoldable pub levelsOf : Bool → LumaDepth → ChromaDepth → Pixel → Levels

@@ -5,7 +5,7 @@ use sample::LumaDepth;
 use sample::Pixel;
 ghost use mathlib.Core.Path.{_≡_};
 ghost use Rattle.sample.specs.Depth.{Depth};
-ghost use Rattle.meter.specs.Level.{quotient, planeOf, scaleOf, levelOf, levelsOf, Measurable};
+ghost use Rattle.meter.specs.Level.{floatQuotient, planeNumber, scaleOf, levelOf, levelsOf, Measurable};
 
 // The levels of one pixel, which travel together.
 pub struct Levels {
@@ -22,7 +22,7 @@ pub enum SampleKind {
 
 // The number of the plane that holds a kind of sample.
 pub fn plane_of(kind: SampleKind) -> u8
-    ensures { λ r. ⌜ r ≡ planeOf kind ⌝ }
+    ensures { λ r. ⌜ r ≡ planeNumber kind ⌝ }
 {
     match kind {
         SampleKind::Y => 0,
@@ -34,7 +34,7 @@ pub fn plane_of(kind: SampleKind) -> u8
 // What a sample stands for on a scale.
 pub fn level(v: u16, s: Scale) -> f32
     requires { ⌜ Measurable s ⌝ }
-    ensures { λ r. ⌜ r ≡ quotient v s ⌝ }
+    ensures { λ r. ⌜ r ≡ floatQuotient v s ⌝ }
 {
     let plus = s.plus;
     let times = s.times;

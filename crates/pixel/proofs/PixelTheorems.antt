@@ -114,7 +114,7 @@ module _ (s : Served) (p : Pixel) (r : Ready s) where
   reverse-inside h = reverse-by (s .family) (r .agreed) h
 
   -- on a lossless setting reverse after forward is the pixel
-  trip-by : (f : Family) → Agreed f s → setting.lossless f (s .depths) ≡ true → InsideRGB (s .depths) p
+  trip-by : (f : Family) → Agreed f s → setting.isLossless f (s .depths) ≡ true → InsideRGB (s .depths) p
       → convertBy Reverse f s (convertBy Forward f s p) ≡ p
   trip-by Identity k e h = refl
   trip-by (Luma w) k e h = absurd (true≢false cc)
@@ -125,12 +125,12 @@ module _ (s : Served) (p : Pixel) (r : Ready s) where
       ∙ lossless-trip (s .depths) p (roomy-8 (s .depths) k q) h
   trip-by (YCgCoR added) k e h = lossless-trip (s .depths) p (roomy-R s added r k) h
 
-  pub trip : setting.lossless (s .family) (s .depths) ≡ true → InsideRGB (s .depths) p → convert Reverse s (convert Forward s p) ≡ p
+  pub trip : setting.isLossless (s .family) (s .depths) ≡ true → InsideRGB (s .depths) p → convert Reverse s (convert Forward s p) ≡ p
   unfolding convert
   trip e h = trip-by (s .family) (r .agreed) e h
 
 -- so forward is one-to-one there
-pub one-to-one : (s : Served) (p q : Pixel) → Ready s → setting.lossless (s .family) (s .depths) ≡ true → InsideRGB (s .depths) p → InsideRGB (s .depths) q
+pub one-to-one : (s : Served) (p q : Pixel) → Ready s → setting.isLossless (s .family) (s .depths) ≡ true → InsideRGB (s .depths) p → InsideRGB (s .depths) q
     → convert Forward s p ≡ convert Forward s q → p ≡ q
 one-to-one s p q r e h k f = sym (trip s p r e h) ∙ ap (convert Reverse s) f ∙ trip s q r e k
 
@@ -145,7 +145,7 @@ pub pixel-same : (p q : Pixel) → p ≡ q → samePixel p q ≡ true
 pixel-same p q e = rw (eq-eqb _ _ (ap (λ x. x .p0) e), eq-eqb _ _ (ap (λ x. x .p1) e), eq-eqb _ _ (ap (λ x. x .p2) e))
 
 -- a pixel within depth has a source exactly if the test says so
-module _ (s : Served) (p : Pixel) (r : Ready s) (e : setting.lossless (s .family) (s .depths) ≡ true) where
+module _ (s : Served) (p : Pixel) (r : Ready s) (e : setting.isLossless (s .family) (s .depths) ≡ true) where
   pub tested : InsideYCC (s .depths) p → hasSource s p ≡ true → HasSource s p
   unfolding hasSource
   tested h t = record { source = convert Reverse s p; inside = reverse-inside s p r h; converts = same-pixel _ _ t }

@@ -13,7 +13,7 @@ use Rattle.sample.proofs.Picks.{both-true, chose-second}
 use Rattle.refusal.specs.Table.{first}
 use Rattle.levels.specs.Luma.{Shares}
 use Rattle.setting.specs.Matrix.{matrices, matrixOf}
-use Rattle.setting.specs.Agreement.{mostFor, depthsServed, agree, lossless}
+use Rattle.setting.specs.Agreement.{mostFor, depthsServed, agree, isLossless}
 use Rattle.setting.specs.Refusals.{family, familyOf, depths, served, answers, refusalOf}
 use Rattle.setting.proofs.RefusalLaws.{groups}
 use Rattle.setting.specs.declared.Call.{Call}
@@ -117,5 +117,5 @@ module _ (call : Call) (s : Setting) (e : refusalOf call s ≡ 0) where
       record { three = h; agreed = agreed (served s) h (family s) (sound (s .matrix)) (at-most-of _ _ (parts .1)) row-7 }
 
 -- a setting that the image check takes is lossless
-pub is-lossless : (s : Setting) → refusalOf call.ImageCheck s ≡ 0 → lossless (family s) (depths s) ≡ true
+pub is-lossless : (s : Setting) → refusalOf call.ImageCheck s ≡ 0 → isLossless (family s) (depths s) ≡ true
 is-lossless s e = row-11 call.ImageCheck s e

@@ -35,23 +35,14 @@ pub fn call_of(way: Way) -> Call
     }
 }
 
-// The largest sample of a depth.
-pub fn top_of(depth: u8) -> u16
-    requires { ⌜ depth ≤ 16 ⌝ }
-    ensures { λ r. ⌜ r ≡ M depth ⌝ }
-{
-    let count = sample::power(depth);
-    (count - 1) as u16
-}
-
 // The largest sample of each plane that a conversion takes.
 pub fn tops(way: Way, d: Depths) -> Pixel
     requires { ⌜ ThreeDepths d ⌝ }
     ensures { λ r. ⌜ r ≡ tops way d ⌝ }
 {
-    let rgb = top_of(d.rgb.0);
-    let luma = top_of(d.luma.0);
-    let chroma = top_of(d.chroma.0);
+    let rgb = d.rgb.largest();
+    let luma = d.luma.largest();
+    let chroma = d.chroma.largest();
     match way {
         Way::Forward => Pixel {
             p0: rgb,

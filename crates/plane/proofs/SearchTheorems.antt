@@ -12,7 +12,7 @@ use Rattle.sample.proofs.Picks.{chose-first, chose-second}
 use Rattle.refusal.specs.Table.{at}
 use Rattle.refusal.specs.declared.Place.{Place}
 use Rattle.plane.specs.Plane.{sampleAt, SamePicture}
-use Rattle.plane.specs.First.{orElse, firstOf, placeIf, placeInRow, firstPlace, isAbove, firstBad, badSample, AllFine, IsFirstPlace, IsFirstBad, IsBadSample}
+use Rattle.plane.specs.First.{orFound, firstOf, placeIf, placeInRow, firstPlace, isAbove, firstBad, badSample, AllFine, IsFirstPlace, IsFirstBad, IsBadSample}
 use Rattle.plane.specs.declared.search.Found.{Found}
 use Rattle.plane.specs.declared.search.Found.the-variants.{At, Nothing}
 use Rattle.plane.proofs.Searches.{first-here, none-of, first-same}
@@ -24,8 +24,8 @@ something place e = true≢false cc
 
 -- where a search found nothing, nothing is at any place searched
 none-step : (f : ℕ → Found) (n : ℕ) (x : Found) → (x ≡ Nothing → (i : ℕ) → i < n → f i ≡ Nothing)
-    → orElse x (f n) ≡ Nothing → (i : ℕ) → i < suc n → f i ≡ Nothing
-unfolding orElse
+    → orFound x (f n) ≡ Nothing → (i : ℕ) → i < suc n → f i ≡ Nothing
+unfolding orFound
 none-step f n (At place) earlier e i h = absurd (something place e)
 none-step f n Nothing earlier e i h =
     ⊎-elim (λ (w : i ≡ n). rw w e) (λ (w : i < n). earlier refl i w) (eq-or-lt-of-le (le-of-suc-le-suc h))
@@ -43,8 +43,8 @@ pub record FoundIn (f : ℕ → Found) (n : ℕ) (place : Place) : Type 0 where
   pub none : (i : ℕ) → i < index → f i ≡ Nothing
 
 found-step : (f : ℕ → Found) (n : ℕ) (place : Place) (x : Found) → firstOf n f ≡ x → (firstOf n f ≡ At place → FoundIn f n place)
-    → orElse x (f n) ≡ At place → FoundIn f (suc n) place
-unfolding orElse
+    → orFound x (f n) ≡ At place → FoundIn f (suc n) place
+unfolding orFound
 found-step f n place (At q) x earlier e =
     let r = earlier (x ∙ e) in
     record { index = r .index; inside = omega (arith, r .inside); there = r .there; none = r .none }

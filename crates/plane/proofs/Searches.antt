@@ -10,14 +10,14 @@ use borrow.Author.Tests.{lt-ltb, le-ltb}
 use lib.ListN.{length, getD, take, drop}
 use Rattle.refusal.specs.Table.{at}
 use Rattle.refusal.specs.declared.Place.{Place}
-use Rattle.plane.specs.First.{orElse, firstOf, placeIf, placeInRow, isAbove, NoneAbove}
+use Rattle.plane.specs.First.{orFound, firstOf, placeIf, placeInRow, isAbove, NoneAbove}
 use Rattle.plane.specs.declared.search.Found.{Found}
 use Rattle.plane.specs.declared.search.Found.the-variants.{At, Nothing}
 use Rattle.plane.proofs.Tables.{part-length, part-at}
 
 -- nothing among the first n, and nothing at n
 pub none-more : (f : ℕ → Found) (n : ℕ) → firstOf n f ≡ Nothing → f n ≡ Nothing → firstOf (n + 1) f ≡ Nothing
-unfolding firstOf orElse
+unfolding firstOf orFound
 none-more f n e q = rw (add-one, e, q)
 
 -- nothing among the first c, where c is n
@@ -26,7 +26,7 @@ none-all f c n q e = rw q at e
 
 -- nothing among the first c, and something at c below n
 pub first-here : (f : ℕ → Found) (n c : ℕ) (place : Place) → c < n → firstOf c f ≡ Nothing → f c ≡ At place → firstOf n f ≡ At place
-unfolding firstOf orElse
+unfolding firstOf orFound
 first-here f zero c place h e q = absurd (not-suc-le-zero h)
 first-here f (suc n) c place h e q =
     ⊎-elim
@@ -35,7 +35,7 @@ first-here f (suc n) c place h e q =
     (eq-or-lt-of-le (le-of-suc-le-suc h))
 
 pub none-of : (f : ℕ → Found) (n : ℕ) → ((i : ℕ) → i < n → f i ≡ Nothing) → firstOf n f ≡ Nothing
-unfolding firstOf orElse
+unfolding firstOf orFound
 none-of f zero e = refl
 none-of f (suc n) e = rw (none-of f n (λ i h. e i (omega arith)), e n (omega arith))
 

@@ -1,4 +1,5 @@
--- Refusal 10 names the first bad sample: lowest plane, in it lowest row, in it lowest column.
+-- The first bad sample of a picture, which a refusal of 10 names: planes are searched in their order, each row by row, a row from its
+-- first column on.
 use mathlib.Core.Path.{_≡_}
 use mathlib.Core.Bool.{Bool, cond}
 use mathlib.Core.List.{List, []}
@@ -13,14 +14,14 @@ use Rattle.plane.specs.declared.search.Found.{Found}
 use Rattle.plane.specs.declared.search.Found.the-variants.{At, Nothing}
 
 -- a, unless it is Nothing, and then b
-unfoldable pub orElse : Found → Found → Found
-orElse (At place) b = At place
-orElse Nothing b = b
+unfoldable pub orFound : Found → Found → Found
+orFound (At place) b = At place
+orFound Nothing b = b
 
 -- the first of f 0, .., f (n - 1) that is not Nothing
 unfoldable pub firstOf : ℕ → (ℕ → Found) → Found
 firstOf zero f = Nothing
-firstOf (suc n) f = orElse (firstOf n f) (f n)
+firstOf (suc n) f = orFound (firstOf n f) (f n)
 
 -- the place of row j and column i of a plane, if a test holds there
 unfoldable pub placeIf : (ℕ → ℕ → Bool) → ℕ → ℕ → ℕ → Found

@@ -1,10 +1,10 @@
--- Refusals 8 and 9. A width or a height is a number from 1 to 8192, and a stride one from the width to 16,384: these limits stand here alone.
+-- Refusals 8 and 9. Of the definitions, this file alone has the limits of sizes and strides.
 use mathlib.Core.Path.{_≡_}
 use mathlib.Core.Bool.{Bool, false, _||_}
 use mathlib.Core.List.{List, [], _∷_}
 use Prim.Native.Nat.{ℕ, _+_, _*_, _-_, _≤_}
 use lib.Dec.{ltb}
-use Rattle.refusal.specs.Table.{Row, row, first}
+use Rattle.refusal.specs.Table.{TableRow, row, first}
 use Rattle.plane.specs.declared.size.Side.{Side}
 
 abbrev pub mostSize : ℕ
@@ -30,7 +30,7 @@ someSide test (s ∷ ss) = test s || someSide test ss
 unfoldable pub pictureOutside : ℕ → ℕ → Bool
 pictureOutside width height = outside width 1 mostSize || outside height 1 mostSize
 
--- a stride below the width or above 16,384
+-- a stride that is too small for a row or too large
 abbrev pub strideOutside : ℕ → Side → Bool
 strideOutside width side = outside (side .stride) width mostStride
 
@@ -47,7 +47,7 @@ unfoldable pub sideShort : ℕ → ℕ → Side → Bool
 sideShort width height side = anyShort (needed width height (side .stride)) (side .n0) (side .n1) (side .n2)
 
 -- rows 8 and 9 of the refusals, for the sides that a call has
-abbrev pub sizeRows : ℕ → ℕ → List Side → List Row
+abbrev pub sizeRows : ℕ → ℕ → List Side → List TableRow
 sizeRows width height sides =
     row 8 (pictureOutside width height || someSide (strideOutside width) sides)
     ∷ row 9 (someSide (sideShort width height) sides)

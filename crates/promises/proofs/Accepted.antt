@@ -16,7 +16,7 @@ use Rattle.setting.specs.Refusals.{depths, served, judged, refusalOf}
 use Rattle.setting.specs.declared.Call.the-variants as call
 use Rattle.setting.specs.declared.Setting.{Setting}
 use Rattle.setting.specs.declared.verdict.Served.{Served}
-use Rattle.meter.specs.Level.{planeOf, scaleOf, levelOf, levelsOf, nearestTo}
+use Rattle.meter.specs.Level.{planeNumber, scaleOf, levelOf, levelsOf, nearestTo}
 use Rattle.meter.specs.declared.SampleKind.{SampleKind}
 use Rattle.meter.specs.declared.SampleKind.the-variants as kind
 use Rattle.meter.proofs.Scales.{level-rounded-once}
@@ -54,7 +54,7 @@ nearestLevel k x v =
 -- a sample within its depth is not bad
 no-bad-one : (k : SampleKind) (d : Depths) (v : ℕ) → v ≤ topOf k d → badOne k d v ≡ found.Nothing
 no-bad-one k d v h =
-    nothing-means (v ∷ []) (planeOf k) 1 1 1 (topOf k d) .1
+    nothing-means (v ∷ []) (planeNumber k) 1 1 1 (topOf k d) .1
     (λ j i a b.
     let ej : j ≡ 0 = omega arith in
     let ei : i ≡ 0 = omega arith in

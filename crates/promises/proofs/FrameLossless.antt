@@ -1,5 +1,5 @@
--- Demand 3 on whole pictures, over settings that the image check does not refuse: frames are one-to-one, a frame comes back, and the image
--- check says yes exactly if some RGB picture within depth converts to the given one. The pixels' own theorems, row by row.
+-- Demand 3 on whole pictures, over settings that the image check does not refuse: frames are one-to-one, and a
+-- frame comes back. The pixels' own theorems, row by row.
 use mathlib.Core.Path.{_≡_, refl, sym, ap, _∙_, subst}
 use mathlib.Core.Bool.{Bool, true, false}
 use mathlib.Core.List.{[], _∷_}

@@ -4,7 +4,7 @@ use mathlib.Core.Path.{_≡_, refl, sym, ap, _∙_}
 use mathlib.Core.List.{List, [], _∷_, _++_}
 use Prim.Native.Nat.{ℕ}
 use native.Mathlib.Omega.{arith}
-use Rattle.refusal.specs.Table.{Row, row, first, orElse, Numbered}
+use Rattle.refusal.specs.Table.{TableRow, row, first, orElse, Numbered}
 use Rattle.refusal.specs.declared.Place.{Place}
 use Rattle.refusal.specs.declared.Refusal.{Refusal}
 use Rattle.refusal.proofs.TableLaws.{first-append}
@@ -37,7 +37,7 @@ use Rattle.promises.proofs.Places.{Told, verdict-told, not-given}
 
 -- the rows before row 10
 module _ (c : Call) (w : Way) (s : Setting) (a : Picture) (others : List Side) where
-  abbrev rows : List Row
+  abbrev rows : List TableRow
   rows = table c s ++ sizeRows (a .width) (a .height) (sideOfPicture a ∷ others)
 
   rows-numbered : Numbered rows
@@ -60,7 +60,7 @@ module _ (c : Call) (w : Way) (s : Setting) (a : Picture) (others : List Side) w
   picture-exactly said e = exactly-first (pictureTable c w s a others) said (whole-numbered rows (beyondDepth w (depths s) a) rows-numbered) (e ∙ picture-number)
 
 -- each answer's number is that of the verdict
-frame-number : (v : Verdict) → frameSaid (frame.answerBy v) .number ≡ number v
+frame-number : (v : Verdict) → frameSaid (frame.frameBy v) .number ≡ number v
 frame-number (verdict.Served x) = refl
 frame-number (verdict.Refused r) = refl
 
@@ -68,7 +68,7 @@ found-number : (f : Found) → imageSaid (answerFound f) .number ≡ 0
 found-number (found.At place) = refl
 found-number found.Nothing = refl
 
-pub image-number : (v : Verdict) (a : Picture) → imageSaid (image.answerBy v a) .number ≡ number v
+pub image-number : (v : Verdict) (a : Picture) → imageSaid (image.imageBy v a) .number ≡ number v
 image-number (verdict.Served x) a = found-number (firstSourceless x a)
 image-number (verdict.Refused r) a = refl
 
@@ -107,9 +107,9 @@ module _ (c : Call) (w : Way) (s : Setting) (a : Picture) (others : List Side) (
 
 pub frame-told : (w : Way) (s : Setting) (a : Picture) (b : Side) → Told (BadIn w s a) (frameSaid (frameAnswer w s a b))
 unfolding frameAnswer
-frame-told w s a b = on-picture (callOf w) w s a (b ∷ []) (λ v. frameSaid (frame.answerBy v)) (λ x. refl) (λ r. refl)
+frame-told w s a b = on-picture (callOf w) w s a (b ∷ []) (λ v. frameSaid (frame.frameBy v)) (λ x. refl) (λ r. refl)
 
 pub image-told : (s : Setting) (a : Picture) → Told (BadIn Reverse s a) (imageSaid (imageAnswer s a))
 unfolding imageAnswer
 image-told s a =
-    on-picture call.ImageCheck Reverse s a [] (λ v. imageSaid (image.answerBy v a)) (λ x. found-number (firstSourceless x a)) (λ r. refl)
+    on-picture call.ImageCheck Reverse s a [] (λ v. imageSaid (image.imageBy v a)) (λ x. found-number (firstSourceless x a)) (λ r. refl)

@@ -65,7 +65,7 @@ module _ (c : Call) (w : Way) (s : Setting) (a : Picture) (others : List Side) w
 pub frame-unpacked : (w : Way) (s : Setting) (a : Picture) (b : Side) → Unpacked (packedFrame (frameAnswer w s a b)) (frameSaid (frameAnswer w s a b))
 unfolding frameAnswer
 frame-unpacked w s a b =
-    on-picture (callOf w) w s a (b ∷ []) (λ v. packedFrame (frame.answerBy v)) (λ v. frameSaid (frame.answerBy v)) (free-unpacked _ _ refl refl)
+    on-picture (callOf w) w s a (b ∷ []) (λ v. packedFrame (frame.frameBy v)) (λ v. frameSaid (frame.frameBy v)) (free-unpacked _ _ refl refl)
     (λ r. refl) (λ r. refl)
 
 found-unpacked : (f : Found) → Unpacked (packedImage (answerFound f)) (imageSaid (answerFound f))
@@ -78,7 +78,7 @@ found-unpacked found.Nothing = free-unpacked _ _ refl refl
 pub image-unpacked : (s : Setting) (a : Picture) → Unpacked (packedImage (imageAnswer s a)) (imageSaid (imageAnswer s a))
 unfolding imageAnswer
 image-unpacked s a =
-    on-picture call.ImageCheck Reverse s a [] (λ v. packedImage (image.answerBy v a)) (λ v. imageSaid (image.answerBy v a))
+    on-picture call.ImageCheck Reverse s a [] (λ v. packedImage (image.imageBy v a)) (λ v. imageSaid (image.imageBy v a))
     (found-unpacked (firstSourceless (served s) a)) (λ r. refl) (λ r. refl)
 
 -- the image check's word: 1 with the row and the column of the pixel that has no source (a yes is the number 0)

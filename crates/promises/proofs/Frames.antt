@@ -29,7 +29,7 @@ use Rattle.picture.specs.Picture.{Picture, picture, pixelOf}
 use Rattle.picture.specs.Verdict.{pictureVerdict}
 use Rattle.picture.proofs.Accepted.{Accepted, accepted-of, of-accepted, sides-served}
 use Rattle.row.specs.Row.{sampleOf}
-use Rattle.frame.specs.Frame.{frameVerdict, answerBy, frameAnswer, convertedPlane, planeBy, lengthOf, outPlane}
+use Rattle.frame.specs.Frame.{frameVerdict, frameBy, frameAnswer, convertedPlane, planeBy, lengthOf, outPlane}
 use Rattle.frame.specs.declared.FrameAnswer.the-variants.{Done, Refused}
 use Rattle.frame.proofs.FrameLaws.{plane-done, plane-refused}
 use Rattle.image.specs.Image.{sourceless, firstSourceless, answerFound, imageAnswer}
@@ -42,11 +42,11 @@ record ServedBy (v : Verdict) : Type 0 where
   by : Served
   is : v ≡ verdict.Served by
 
-done-served : (v : Verdict) → answerBy v ≡ Done → ServedBy v
+done-served : (v : Verdict) → frameBy v ≡ Done → ServedBy v
 done-served (verdict.Served x) e = record { by = x; is = refl }
 done-served (verdict.Refused r) e = absurd (true≢false cc)
 
-pub frame-refused : (v : Verdict) (r : Refusal) → answerBy v ≡ Refused r → v ≡ verdict.Refused r
+pub frame-refused : (v : Verdict) (r : Refusal) → frameBy v ≡ Refused r → v ≡ verdict.Refused r
 frame-refused (verdict.Served x) r e = absurd (true≢false cc)
 frame-refused (verdict.Refused q) r e = let f : q ≡ r = cc in ap verdict.Refused f
 
@@ -60,7 +60,7 @@ module _ (w : Way) (s : Setting) (a : Picture) (b : Side) where
   unfolding frameAnswer
   frame-done = (
     λ e. let x = done-served (frameVerdict w s a b) e in accepted-of (callOf w) w s a (b ∷ []) (x .by) (x .is) .0,
-    λ k. ap answerBy (of-accepted (callOf w) w s a (b ∷ []) k),
+    λ k. ap frameBy (of-accepted (callOf w) w s a (b ∷ []) k),
   )
 
   -- after any call the plane is as long as before
@@ -103,7 +103,7 @@ module _ (w : Way) (s : Setting) (a : Picture) (b : Side) where
         ∙ plane-inside (lengthOf k b) (b .stride) (a .width) (a .height) _ j i x y (output-served .sized .stride-within .from-least)
         (omega (arith, index-inside (a .width) (a .height) (b .stride) j i x y, long-enough k h))
 
-    -- and every other element, in the padding and past the end, is 0
+    -- what lies outside the picture is 0, wherever in the plane it is
     pub done-outside : (k n : ℕ) → n < lengthOf k b → ((j i : ℕ) → j < a .height → i < a .width → n ≡ j * b .stride + i → ⊥)
         → getD (outPlane k w s a b) n 0 ≡ 0
     done-outside k n h o =
@@ -140,7 +140,7 @@ module _ (a : Picture) (q0 q1 q2 : List ℕ) (e : Alike a q0 q1 q2) where
 
   pub same-answer : (w : Way) (s : Setting) (b : Side) → frameAnswer w s a b ≡ frameAnswer w s (withPlanes a q0 q1 q2) b
   unfolding frameAnswer
-  same-answer w s b = ap answerBy (same-verdict (callOf w) w s (b ∷ []))
+  same-answer w s b = ap frameBy (same-verdict (callOf w) w s (b ∷ []))
 
   by-same : (k : ℕ) (w : Way) (stride n : ℕ) (v : Verdict) → planeBy v k w a stride n ≡ planeBy v k w (withPlanes a q0 q1 q2) stride n
   by-same k w stride n (verdict.Served x) =
@@ -156,7 +156,7 @@ module _ (a : Picture) (q0 q1 q2 : List ℕ) (e : Alike a q0 q1 q2) where
   found-same : (x : Served) → firstSourceless x a ≡ firstSourceless x (withPlanes a q0 q1 q2)
   found-same x = first-place-same (sourceless x a) (sourceless x (withPlanes a q0 q1 q2)) 0 (a .width) (a .height) (λ j i h l. rw (pixels j i h l))
 
-  image-by-same : (v : Verdict) → image.answerBy v a ≡ image.answerBy v (withPlanes a q0 q1 q2)
+  image-by-same : (v : Verdict) → image.imageBy v a ≡ image.imageBy v (withPlanes a q0 q1 q2)
   image-by-same (verdict.Served x) = ap answerFound (found-same x)
   image-by-same (verdict.Refused r) = refl
 
@@ -164,4 +164,4 @@ module _ (a : Picture) (q0 q1 q2 : List ℕ) (e : Alike a q0 q1 q2) where
   unfolding imageAnswer
   same-image s =
       image-by-same (pictureVerdict call.ImageCheck Reverse s a [])
-      ∙ ap (λ v. image.answerBy v (withPlanes a q0 q1 q2)) (same-verdict call.ImageCheck Reverse s [])
+      ∙ ap (λ v. image.imageBy v (withPlanes a q0 q1 q2)) (same-verdict call.ImageCheck Reverse s [])

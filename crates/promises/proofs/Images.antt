@@ -1,5 +1,5 @@
--- Demand 3, the image check: it says yes exactly if some RGB picture within depth converts to the given one by the forward formulas, and
--- otherwise names the first pixel that no RGB pixel within depth converts to.
+-- Demand 3, the image check: its yes means that the picture is the forward conversion of an RGB picture within depth, and the place that it
+-- names otherwise is the first without a source.
 use mathlib.Core.Path.{_≡_, refl, sym, ap, _∙_, subst}
 use mathlib.Core.Bool.{true, false, true≢false, not}
 use mathlib.Core.List.{List, [], _∷_}
@@ -33,7 +33,7 @@ use Rattle.picture.specs.Picture.{Picture, picture, pixelOf, sideOfPicture, Eve
 use Rattle.picture.specs.Verdict.{beyondDepth, numberBefore10, pictureVerdict}
 use Rattle.picture.proofs.Accepted.{Accepted, of-accepted, pixels-inside}
 use Rattle.row.specs.Row.{sampleOf}
-use Rattle.image.specs.Image.{sourceless, firstSourceless, answerFound, answerBy, imageAnswer}
+use Rattle.image.specs.Image.{sourceless, firstSourceless, answerFound, imageBy, imageAnswer}
 use Rattle.image.specs.declared.ImageAnswer.the-variants.{Yes, NoSource}
 use Rattle.corkplover.specs.Said.{imageSaid}
 use Rattle.promises.specs.Tables.{isFound}
@@ -83,7 +83,7 @@ image-accepted s a = (
       let m = neither (refusalOf call.ImageCheck s) _ (n .0) in
       record { setting = m .0; sizes = m .1; samples = none-there f (n .1) },
   λ k.
-      ap (λ v. imageSaid (answerBy v a) .number) (of-accepted call.ImageCheck Reverse s a [] k)
+      ap (λ v. imageSaid (imageBy v a) .number) (of-accepted call.ImageCheck Reverse s a [] k)
       ∙ image-number (verdict.Served (served s)) a,
 )
 
@@ -103,7 +103,7 @@ module _ (s : Setting) (a : Picture) (k : Accepted call.ImageCheck Reverse s a [
   -- a call that no row refuses is answered by the search
   searched : imageAnswer s a ≡ answerFound (firstSourceless (served s) a)
   unfolding imageAnswer
-  searched = ap (λ v. answerBy v a) (of-accepted call.ImageCheck Reverse s a [] k)
+  searched = ap (λ v. imageBy v a) (of-accepted call.ImageCheck Reverse s a [] k)
 
   within : (j i : ℕ) → j < a .height → i < a .width → InsideYCC (depths s) (pixelOf a j i)
   within = pixels-inside call.ImageCheck Reverse s a [] k
@@ -180,7 +180,7 @@ module _ (s : Setting) (a : Picture) (k : Accepted call.ImageCheck Reverse s a [
     λ p. searched ∙ ap answerFound (every .1 (source-has p)),
   )
 
-  -- and NoSource with the first pixel, by row and then by column, that no RGB pixel within depth converts to
+  -- and NoSource with the first pixel that has no source, row by row
   pub image-none : (place : Place)
       → (imageAnswer s a ≡ NoSource place)
       ↔ IsFirstPlace (λ j i. HasSource (served s) (pixelOf a j i) → ⊥) (λ j i. HasSource (served s) (pixelOf a j i)) 0 (a .width) (a .height) place

@@ -7,7 +7,7 @@ use Rattle.whole.specs.Whole.{half, round, clip, sample}
 use Rattle.sample.specs.Depth.{isDepth, areDepths, atMost}
 use Rattle.sample.specs.declared.Pixel.{Pixel}
 use Rattle.refusal.specs.Table.{first}
-use Rattle.plane.specs.First.{orElse, firstOf, placeIf, placeInRow, firstPlace, firstBad, badSample}
+use Rattle.plane.specs.First.{orFound, firstOf, placeIf, placeInRow, firstPlace, firstBad, badSample}
 use Rattle.ycgco.specs.YCgCo.{lossyForward, lossyReverse, losslessForward, losslessReverse}
 use Rattle.levels.specs.Luma.{lumaForward, lumaReverse}
 use Rattle.setting.specs.Label.{among, labelled}
@@ -67,5 +67,5 @@ table =
     ∷ []
 
 pub marked : answers ≡ table
-unfolding pixelAnswer admitted refusalOf judged first matrixOf labelled among depthsServed areDepths isDepth atMost badSample firstBad firstPlace placeInRow placeIf firstOf orElse convert lossyForward lossyReverse losslessForward losslessReverse lumaForward lumaReverse half round clip sample
+unfolding pixelAnswer admitted refusalOf judged first matrixOf labelled among depthsServed areDepths isDepth atMost badSample firstBad firstPlace placeInRow placeIf firstOf orFound convert lossyForward lossyReverse losslessForward losslessReverse lumaForward lumaReverse half round clip sample
 marked = refl

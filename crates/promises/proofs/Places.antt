@@ -8,7 +8,7 @@ use native.Mathlib.Omega.{arith}
 use borrow.Author.Tests.{eqb-false, ne-eqb}
 use lib.Dec.{eqb}
 use Rattle.sample.specs.declared.Pixel.{Pixel}
-use Rattle.refusal.specs.Table.{Row, first, plain, badAt, nowhere}
+use Rattle.refusal.specs.Table.{TableRow, first, plain, badAt, nowhere}
 use Rattle.refusal.specs.declared.Place.{Place}
 use Rattle.refusal.specs.declared.Refusal.{Refusal}
 use Rattle.plane.specs.First.{IsBadSample, IsFirstBad}
@@ -22,7 +22,7 @@ use Rattle.setting.specs.declared.Setting.{Setting}
 use Rattle.setting.specs.declared.verdict.Served.{Served}
 use Rattle.setting.specs.declared.verdict.Verdict.{Verdict}
 use Rattle.setting.specs.declared.verdict.Verdict.the-variants as verdict
-use Rattle.meter.specs.Level.{planeOf}
+use Rattle.meter.specs.Level.{planeNumber}
 use Rattle.meter.specs.declared.SampleKind.{SampleKind}
 use Rattle.pixel.specs.Pixel.{callOf, tops}
 use Rattle.pixel.specs.Source.{hasSource}
@@ -69,7 +69,7 @@ module _ (Bad : Place → Type 0) (f : Found) (means : (place : Place) → f ≡
         (record { ten = λ t. absurd (h t); other = λ t u. refl; alone = λ t. (refl, (refl, refl)) }))
 
 -- no row has the number n, so n is not given
-abbrev pub Without : ℕ → List Row → Type 0
+abbrev pub Without : ℕ → List TableRow → Type 0
 Without n [] = Unit
 Without n (r ∷ rs) = (eqb (r .number) n ≡ false) × Without n rs
 
@@ -77,7 +77,7 @@ not-here : (n k m : ℕ) (t : Bool) → eqb k n ≡ false → (m ≡ n → ⊥) 
 not-here n k m true h f e = eqb-false k n h e
 not-here n k m false h f e = f e
 
-pub not-given : (n : ℕ) (rs : List Row) → 0 < n → Without n rs → first rs ≡ n → ⊥
+pub not-given : (n : ℕ) (rs : List TableRow) → 0 < n → Without n rs → first rs ≡ n → ⊥
 unfolding first
 not-given n [] p h e = omega arith
 not-given n (r ∷ rs) p h e = not-here n (r .number) (first rs) (r .applies) (h .0) (not-given n rs p (h .1)) e
@@ -94,13 +94,13 @@ BadPixel w s p =
     (tops w (depths s) .p0 ∷ tops w (depths s) .p1 ∷ tops w (depths s) .p2 ∷ [])
 
 abbrev pub BadSampleOf : SampleKind → Setting → ℕ → Place → Type 0
-BadSampleOf k s v = IsFirstBad (v ∷ []) (planeOf k) 1 1 1 (topOf k (depths s))
+BadSampleOf k s v = IsFirstBad (v ∷ []) (planeNumber k) 1 1 1 (topOf k (depths s))
 
 bad-pixel : (w : Way) (s : Setting) (p : Pixel) (place : Place) → badPixel w (depths s) p ≡ found.At place → BadPixel w s p place
 bad-pixel w s p place e = at-in-planes-means _ 1 1 1 _ place .0 e
 
 bad-one : (k : SampleKind) (s : Setting) (v : ℕ) (place : Place) → badOne k (depths s) v ≡ found.At place → BadSampleOf k s v place
-bad-one k s v place e = at-means (v ∷ []) (planeOf k) 1 1 1 (topOf k (depths s)) place .0 e
+bad-one k s v place e = at-means (v ∷ []) (planeNumber k) 1 1 1 (topOf k (depths s)) place .0 e
 
 picked : (b : Bool) → sourceSaid (cond b source.Yes source.NoSource) .number ≡ 0
 picked true = refl

@@ -8,7 +8,7 @@ use native.Mathlib.Omega.{arith}
 use borrow.Author.Tests.{ne-eqb}
 use lib.Dec.{eqb}
 use Rattle.sample.specs.declared.Pixel.{Pixel}
-use Rattle.refusal.specs.Table.{Row, row, first, orElse, FirstIs, NoRow, Numbered, plain, badAt, nowhere}
+use Rattle.refusal.specs.Table.{TableRow, row, first, orElse, FirstIs, NoRow, Numbered, plain, badAt, nowhere}
 use Rattle.refusal.specs.declared.Place.{Place}
 use Rattle.refusal.specs.declared.Refusal.{Refusal}
 use Rattle.refusal.proofs.TableLaws.{first-append, is-first, first-is, no-row, row-none}
@@ -54,13 +54,13 @@ unfolding refusalOf
 door-number c s f = past-number (refusalOf c s) (served s) f ∙ sym (first-append (table c s) (row 10 (isFound f) ∷ []) (numbered c s))
 
 -- what a claim on an answer's number comes to
-pub record Exactly (said : ℕ) (rows : List Row) : Type 0 where
+pub record Exactly (said : ℕ) (rows : List TableRow) : Type 0 where
   pub given : (n : ℕ) → 0 < n → said ≡ n → FirstIs n rows
   pub only : {n : ℕ} → FirstIs n rows → said ≡ n
   pub accepted : said ≡ 0 → NoRow rows
   pub free : NoRow rows → said ≡ 0
 
-pub exactly-first : (rows : List Row) (said : ℕ) → Numbered rows → said ≡ first rows → Exactly said rows
+pub exactly-first : (rows : List TableRow) (said : ℕ) → Numbered rows → said ≡ first rows → Exactly said rows
 exactly-first rows said h q =
     record {
       given = λ n p k. is-first rows n p (sym q ∙ k);
@@ -69,7 +69,7 @@ exactly-first rows said h q =
       free = λ k. q ∙ row-none k;
     }
 
-pub whole-numbered : (rows : List Row) (f : Found) → Numbered rows → Numbered (thenBad rows f)
+pub whole-numbered : (rows : List TableRow) (f : Found) → Numbered rows → Numbered (thenBad rows f)
 whole-numbered [] f h = (refl, tt)
 whole-numbered (r ∷ rs) f h = (h .0, whole-numbered rs f (h .1))
 

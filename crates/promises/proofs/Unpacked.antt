@@ -9,7 +9,7 @@ use borrow.Author.Tests.{ne-eqb}
 use Rattle.sample.specs.Depth.{Depth, mostDepth, InsideRGB, InsideYCC}
 use Rattle.sample.specs.declared.Pixel.{Pixel}
 use Rattle.sample.proofs.DepthLaws.{powers}
-use Rattle.refusal.specs.Table.{Row, first, plain, badAt}
+use Rattle.refusal.specs.Table.{TableRow, first, plain, badAt}
 use Rattle.refusal.specs.declared.Place.{Place}
 use Rattle.refusal.specs.declared.Refusal.{Refusal}
 use Rattle.plane.specs.declared.search.Found.{Found}
@@ -22,7 +22,7 @@ use Rattle.setting.specs.declared.Setting.{Setting}
 use Rattle.setting.specs.declared.verdict.Served.{Served}
 use Rattle.setting.specs.declared.verdict.Verdict.{Verdict}
 use Rattle.setting.specs.declared.verdict.Verdict.the-variants as verdict
-use Rattle.meter.specs.Level.{planeOf}
+use Rattle.meter.specs.Level.{planeNumber}
 use Rattle.meter.specs.declared.SampleKind.{SampleKind}
 use Rattle.meter.specs.declared.SampleKind.the-variants as kind
 use Rattle.pixel.specs.Pixel.{convert, callOf}
@@ -79,7 +79,7 @@ module _ (pack : Verdict → ℕ) (say : Verdict → Said) (x : Served) (free : 
         (by-refusal (plain (suc n)) h (record { plane-fits = omega arith; row-fits = omega arith; column-fits = omega arith }))
 
 -- the first row of a table has a number that some row has
-abbrev pub Small : List Row → Type 0
+abbrev pub Small : List TableRow → Type 0
 Small [] = Unit
 Small (r ∷ rs) = (r .number < 256) × Small rs
 
@@ -87,7 +87,7 @@ pub pick-small : (t : Bool) (n m : ℕ) → n < 256 → m < 256 → cond t n m <
 pick-small true n m h k = h
 pick-small false n m h k = k
 
-pub first-small : (rs : List Row) → Small rs → first rs < 256
+pub first-small : (rs : List TableRow) → Small rs → first rs < 256
 unfolding first
 first-small [] h = omega arith
 first-small (r ∷ rs) h = pick-small (r .applies) (r .number) (first rs) (h .0) (first-small rs (h .1))
@@ -130,14 +130,14 @@ unfolding levelsAnswer
 levels-unpacked s p =
     on-pixel call.Meter Reverse s p (λ v. packedLevels (levelsBy p v)) (λ v. levelsSaid (levelsBy p v)) (free-unpacked _ _ refl refl) (λ r. refl) (λ r. refl)
 
-kind-fits : (k : SampleKind) → planeOf k < 256
+kind-fits : (k : SampleKind) → planeNumber k < 256
 kind-fits kind.Y = omega arith
 kind-fits kind.Cb = omega arith
 kind-fits kind.Cr = omega arith
 
 sample-fits : (k : SampleKind) (s : Setting) (v : ℕ) (place : Place) → badOne k (depths s) v ≡ found.At place → Fits place
 sample-fits k s v place e =
-    let b = at-means (v ∷ []) (planeOf k) 1 1 1 (topOf k (depths s)) place .0 e in
+    let b = at-means (v ∷ []) (planeNumber k) 1 1 1 (topOf k (depths s)) place .0 e in
     record {
       plane-fits = subst (λ n. n < 256) (sym (b .plane-is)) (kind-fits k);
       row-fits = omega (arith, b .row-inside);

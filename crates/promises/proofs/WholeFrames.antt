@@ -10,7 +10,7 @@ use Rattle.sample.specs.Depth.{isDepth, areDepths, atMost}
 use Rattle.refusal.specs.Table.{first, at}
 use Rattle.refusal.specs.declared.Place.{Place}
 use Rattle.refusal.specs.declared.Refusal.{Refusal}
-use Rattle.plane.specs.First.{orElse, firstOf, placeIf, placeInRow, firstPlace, firstBad, badSample}
+use Rattle.plane.specs.First.{orFound, firstOf, placeIf, placeInRow, firstPlace, firstBad, badSample}
 use Rattle.plane.specs.Plane.{tab, cell, planeOf}
 use Rattle.plane.specs.Sizes.{sideOf, outside, someSide, pictureOutside, anyShort, sideShort, sizeRefusal}
 use Rattle.plane.specs.declared.size.Side.{Side}
@@ -47,16 +47,16 @@ abbrev output : Side
 output = sideOf 3 4 4 4
 
 pub whole-answer : frameAnswer Forward setting source output ≡ Done
-unfolding frameAnswer pictureVerdict refusalOf judged first matrixOf labelled among depthsServed areDepths isDepth atMost sizeRefusal pictureOutside outside someSide sideShort anyShort badSample firstBad firstPlace placeInRow placeIf firstOf orElse
+unfolding frameAnswer pictureVerdict refusalOf judged first matrixOf labelled among depthsServed areDepths isDepth atMost sizeRefusal pictureOutside outside someSide sideShort anyShort badSample firstBad firstPlace placeInRow placeIf firstOf orFound
 whole-answer = refl
 
 pub whole-frame : left setting source output ≡ (63 ∷ 127 ∷ 0 ∷ 0 ∷ []) ∷ (129 ∷ 511 ∷ 0 ∷ 0 ∷ []) ∷ (511 ∷ 256 ∷ 0 ∷ 0 ∷ []) ∷ []
-unfolding outPlane pictureVerdict refusalOf judged first matrixOf labelled among depthsServed areDepths isDepth atMost sizeRefusal pictureOutside outside someSide sideShort anyShort badSample firstBad firstPlace placeInRow placeIf firstOf orElse planeOf tab cell convert losslessForward half sample
+unfolding outPlane pictureVerdict refusalOf judged first matrixOf labelled among depthsServed areDepths isDepth atMost sizeRefusal pictureOutside outside someSide sideShort anyShort badSample firstBad firstPlace placeInRow placeIf firstOf orFound planeOf tab cell convert losslessForward half sample
 whole-frame = refl
 
 -- the same with a matrix that is reserved: every element is zeroed
 pub refused-frame : left (with 17 8 8 9 true true) source output ≡ (0 ∷ 0 ∷ 0 ∷ 0 ∷ []) ∷ (0 ∷ 0 ∷ 0 ∷ 0 ∷ []) ∷ (0 ∷ 0 ∷ 0 ∷ 0 ∷ []) ∷ []
-unfolding outPlane pictureVerdict refusalOf judged first matrixOf labelled among depthsServed areDepths isDepth atMost sizeRefusal pictureOutside outside someSide sideShort anyShort badSample firstBad firstPlace placeInRow placeIf firstOf orElse tab
+unfolding outPlane pictureVerdict refusalOf judged first matrixOf labelled among depthsServed areDepths isDepth atMost sizeRefusal pictureOutside outside someSide sideShort anyShort badSample firstBad firstPlace placeInRow placeIf firstOf orFound tab
 refused-frame = refl
 
 -- red above green, one pixel wide
@@ -64,20 +64,20 @@ abbrev tall : Picture
 tall = picture 1 2 1 (255 ∷ 0 ∷ []) (0 ∷ 255 ∷ []) (0 ∷ 0 ∷ [])
 
 pub tall-frame : left setting tall (sideOf 1 2 2 2) ≡ (63 ∷ 127 ∷ []) ∷ (129 ∷ 511 ∷ []) ∷ (511 ∷ 256 ∷ []) ∷ []
-unfolding outPlane pictureVerdict refusalOf judged first matrixOf labelled among depthsServed areDepths isDepth atMost sizeRefusal pictureOutside outside someSide sideShort anyShort badSample firstBad firstPlace placeInRow placeIf firstOf orElse planeOf tab cell convert losslessForward half sample
+unfolding outPlane pictureVerdict refusalOf judged first matrixOf labelled among depthsServed areDepths isDepth atMost sizeRefusal pictureOutside outside someSide sideShort anyShort badSample firstBad firstPlace placeInRow placeIf firstOf orFound planeOf tab cell convert losslessForward half sample
 tall-frame = refl
 
 -- one pixel that has an image source and one that has none: its blue would be negative
 abbrev one : ℕ → ℕ → ℕ → Picture
 one y cb cr = picture 1 1 1 (y ∷ []) (cb ∷ []) (cr ∷ [])
 
-pub red-has-source : imageAnswer setting (one 63 129 511) ≡ Yes
-unfolding imageAnswer pictureVerdict refusalOf judged first matrixOf labelled among depthsServed areDepths isDepth atMost sizeRefusal pictureOutside outside someSide sideShort anyShort badSample firstBad firstPlace placeInRow placeIf firstOf orElse hasSource convert losslessForward losslessReverse half clip sample
-red-has-source = refl
+pub red-picture-has-source : imageAnswer setting (one 63 129 511) ≡ Yes
+unfolding imageAnswer pictureVerdict refusalOf judged first matrixOf labelled among depthsServed areDepths isDepth atMost sizeRefusal pictureOutside outside someSide sideShort anyShort badSample firstBad firstPlace placeInRow placeIf firstOf orFound hasSource convert losslessForward losslessReverse half clip sample
+red-picture-has-source = refl
 
-pub none-has-source : imageAnswer setting (one 0 256 511) ≡ NoSource (at 0 0 0)
-unfolding imageAnswer pictureVerdict refusalOf judged first matrixOf labelled among depthsServed areDepths isDepth atMost sizeRefusal pictureOutside outside someSide sideShort anyShort badSample firstBad firstPlace placeInRow placeIf firstOf orElse hasSource convert losslessForward losslessReverse half clip sample
-none-has-source = refl
+pub none-picture-has-source : imageAnswer setting (one 0 256 511) ≡ NoSource (at 0 0 0)
+unfolding imageAnswer pictureVerdict refusalOf judged first matrixOf labelled among depthsServed areDepths isDepth atMost sizeRefusal pictureOutside outside someSide sideShort anyShort badSample firstBad firstPlace placeInRow placeIf firstOf orFound hasSource convert losslessForward losslessReverse half clip sample
+none-picture-has-source = refl
 
 -- ---- wrong boxes: what each would answer or leave there is not so
 
@@ -90,8 +90,8 @@ pub refuses-frames : (r : Refusal) → frameAnswer Forward setting source output
 refuses-frames r e = let f = whole-answer in true≢false cc
 
 -- one fixed colour: the same sample wherever the picture is
-pub fixed-colour : element 0 0 (left setting source output) ≡ element 0 1 (left setting source output) → ⊥
-fixed-colour e = let q = ap (element 0 0) whole-frame in let r = ap (element 0 1) whole-frame in omega (arith, e, q, r)
+pub fixed-colour-frame : element 0 0 (left setting source output) ≡ element 0 1 (left setting source output) → ⊥
+fixed-colour-frame e = let q = ap (element 0 0) whole-frame in let r = ap (element 0 1) whole-frame in omega (arith, e, q, r)
 
 -- planes copied straight through
 pub copied-through : element 0 0 (left setting source output) ≡ 255 → ⊥
@@ -108,13 +108,13 @@ padding-kept e = omega (arith, e, ap (element 0 2) whole-frame)
 pub left-on-refusal : element 0 0 (left (with 17 8 8 9 true true) source output) ≡ 9 → ⊥
 left-on-refusal e = omega (arith, e, ap (element 0 0) refused-frame)
 
--- converts the first row and blanks the others
+-- only the first row converted
 pub first-row-alone : element 0 1 (left setting tall (sideOf 1 2 2 2)) ≡ 0 → ⊥
 first-row-alone e = omega (arith, e, ap (element 0 1) tall-frame)
 
 -- an image check that always says yes, or never
 pub always-yes : imageAnswer setting (one 0 256 511) ≡ Yes → ⊥
-always-yes e = let f = none-has-source in true≢false cc
+always-yes e = let f = none-picture-has-source in true≢false cc
 
 pub never-yes : (p : Place) → imageAnswer setting (one 63 129 511) ≡ NoSource p → ⊥
-never-yes p e = let f = red-has-source in true≢false cc
+never-yes p e = let f = red-picture-has-source in true≢false cc

@@ -16,7 +16,7 @@ use Rattle.corkplover.specs.Admit.{admitted}
 use Rattle.whole.specs.Whole.{half, clip, sample}
 use Rattle.sample.specs.Depth.{isDepth, areDepths, atMost}
 use Rattle.refusal.specs.Table.{first}
-use Rattle.plane.specs.First.{orElse, firstOf, placeIf, placeInRow, firstPlace, firstBad, badSample}
+use Rattle.plane.specs.First.{orFound, firstOf, placeIf, placeInRow, firstPlace, firstBad, badSample}
 use Rattle.ycgco.specs.YCgCo.{losslessForward, losslessReverse}
 use Rattle.setting.specs.Agreement.{depthsServed}
 use Rattle.setting.specs.Refusals.{refusalOf, judged}
@@ -83,11 +83,11 @@ fixed-colour p e f = let q = apart red e in let r = apart green f in omega arith
 
 -- a source check that always says yes, or never: the red pixel has a source, the other would need a negative blue
 pub red-has-source : sourceAnswer (with 8 8 8 9 true true) (pixel 63 129 511) ≡ source.Yes
-unfolding sourceAnswer admitted refusalOf judged first matrixOf labelled among depthsServed areDepths isDepth atMost badSample firstBad firstPlace placeInRow placeIf firstOf orElse hasSource convert losslessForward losslessReverse half clip sample
+unfolding sourceAnswer admitted refusalOf judged first matrixOf labelled among depthsServed areDepths isDepth atMost badSample firstBad firstPlace placeInRow placeIf firstOf orFound hasSource convert losslessForward losslessReverse half clip sample
 red-has-source = refl
 
 pub none-has-source : sourceAnswer (with 8 8 8 9 true true) (pixel 0 256 511) ≡ source.NoSource
-unfolding sourceAnswer admitted refusalOf judged first matrixOf labelled among depthsServed areDepths isDepth atMost badSample firstBad firstPlace placeInRow placeIf firstOf orElse hasSource convert losslessForward losslessReverse half clip sample
+unfolding sourceAnswer admitted refusalOf judged first matrixOf labelled among depthsServed areDepths isDepth atMost badSample firstBad firstPlace placeInRow placeIf firstOf orFound hasSource convert losslessForward losslessReverse half clip sample
 none-has-source = refl
 
 -- a list of lossless settings that is empty or too long: codes 0, 8 with chroma one bit deeper, 15 and 16 are taken by the image check;

@@ -3,7 +3,7 @@ use mathlib.Core.Bool.{Bool, true, false}
 use mathlib.Core.List.{List, [], _∷_, _++_}
 use Prim.Native.Nat.{ℕ}
 use Rattle.sample.specs.declared.Pixel.{Pixel}
-use Rattle.refusal.specs.Table.{Row, row}
+use Rattle.refusal.specs.Table.{TableRow, row}
 use Rattle.plane.specs.declared.search.Found.{Found}
 use Rattle.plane.specs.declared.search.Found.the-variants.{At, Nothing}
 use Rattle.setting.specs.Refusals.{depths, table}
@@ -25,23 +25,23 @@ isFound (At place) = true
 isFound Nothing = false
 
 -- the rows on a setting, then row 10
-abbrev pub thenBad : List Row → Found → List Row
+abbrev pub thenBad : List TableRow → Found → List TableRow
 thenBad rows f = rows ++ (row 10 (isFound f) ∷ [])
 
-abbrev pub pixelTable : Call → Way → Setting → Pixel → List Row
+abbrev pub pixelTable : Call → Way → Setting → Pixel → List TableRow
 pixelTable c w s p = thenBad (table c s) (badPixel w (depths s) p)
 
-abbrev pub sampleTable : SampleKind → Setting → ℕ → List Row
+abbrev pub sampleTable : SampleKind → Setting → ℕ → List TableRow
 sampleTable k s v = thenBad (table call.Meter s) (badOne k (depths s) v)
 
 -- a call on a picture: the rows on the setting, rows 8 and 9 on its sides, then row 10 on its samples
-abbrev pub pictureTable : Call → Way → Setting → Picture → List Side → List Row
+abbrev pub pictureTable : Call → Way → Setting → Picture → List Side → List TableRow
 pictureTable c w s a others =
     thenBad (table c s ++ sizeRows (a .width) (a .height) (sideOfPicture a ∷ others)) (beyondDepth w (depths s) a)
 
 -- of a conversion, which has a side that it writes, and of the image check, which has none
-abbrev pub frameTable : Way → Setting → Picture → Side → List Row
+abbrev pub frameTable : Way → Setting → Picture → Side → List TableRow
 frameTable w s a b = pictureTable (callOf w) w s a (b ∷ [])
 
-abbrev pub imageTable : Setting → Picture → List Row
+abbrev pub imageTable : Setting → Picture → List TableRow
 imageTable s a = pictureTable call.ImageCheck Reverse s a []

@@ -7,15 +7,15 @@ use lib.Dec.{eqb}
 use Rattle.refusal.specs.declared.Place.{Place}
 use Rattle.refusal.specs.declared.Refusal.{Refusal}
 
-pub record Row : Type 0 where
+pub record TableRow : Type 0 where
   pub number : ℕ
   pub applies : Bool
 
-abbrev pub row : ℕ → Bool → Row
+abbrev pub row : ℕ → Bool → TableRow
 row n b = record { number = n; applies = b }
 
 -- the number of the first row that applies, or 0 where none does
-unfoldable pub first : List Row → ℕ
+unfoldable pub first : List TableRow → ℕ
 first [] = 0
 first (r ∷ rs) = cond (r .applies) (r .number) (first rs)
 
@@ -24,17 +24,17 @@ abbrev pub orElse : ℕ → ℕ → ℕ
 orElse n m = cond (eqb n 0) m n
 
 -- Row n applies and no earlier row does.
-pub data FirstIs (n : ℕ) : List Row → Type 0 where
-  here : {rs : List Row} → FirstIs n (row n true ∷ rs)
-  later : {k : ℕ} {rs : List Row} → FirstIs n rs → FirstIs n (row k false ∷ rs)
+pub data FirstIs (n : ℕ) : List TableRow → Type 0 where
+  here : {rs : List TableRow} → FirstIs n (row n true ∷ rs)
+  later : {k : ℕ} {rs : List TableRow} → FirstIs n rs → FirstIs n (row k false ∷ rs)
 
 -- No row applies.
-pub data NoRow : List Row → Type 0 where
+pub data NoRow : List TableRow → Type 0 where
   end : NoRow []
-  past : {k : ℕ} {rs : List Row} → NoRow rs → NoRow (row k false ∷ rs)
+  past : {k : ℕ} {rs : List TableRow} → NoRow rs → NoRow (row k false ∷ rs)
 
 -- Every row has a number that is not 0.
-abbrev pub Numbered : List Row → Type 0
+abbrev pub Numbered : List TableRow → Type 0
 Numbered [] = Unit
 Numbered (r ∷ rs) = (eqb (r .number) 0 ≡ false) × Numbered rs
 

@@ -6,7 +6,7 @@ use native.Mathlib.Omega.{arith}
 use lib.ListN.{length, getD, set}
 use lib.Seq.{ext-getD}
 use Rattle.sample.specs.declared.Pixel.{Pixel}
-use Rattle.levels.specs.Lines.{pixelOf}
+use Rattle.levels.specs.Lines.{linesPixel}
 use Rattle.levels.specs.Room.{Rooms}
 use Rattle.levels.specs.Luma.{LumaServed}
 use Rattle.levels.specs.declared.LumaSetting.{LumaSetting}
@@ -70,6 +70,6 @@ pub rooms : (way : Way) (s : LumaSetting) → LumaServed s → Rooms (lines way 
 rooms Forward s h = forward-rooms s h
 rooms Reverse s h = reverse-rooms s h
 
-pub by-lines : (way : Way) (s : LumaSetting) → LumaServed s → (p : Pixel) → pixelOf (lines way s) p ≡ luma way s p
+pub by-lines : (way : Way) (s : LumaSetting) → LumaServed s → (p : Pixel) → linesPixel (lines way s) p ≡ luma way s p
 by-lines Forward s h p = forward-law s h p
 by-lines Reverse s h p = reverse-law s h p

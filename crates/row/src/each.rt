@@ -4,7 +4,7 @@ ghost use Prim.Native.Nat.{_<_};
 ghost use lib.ListN.{length, set};
 ghost use Rattle.sample.specs.Depth.{InsideRGB};
 ghost use Rattle.ycgco.specs.YCgCo.{lossyForward, lossyReverse, losslessForward, losslessReverse, Plain, Roomy};
-ghost use Rattle.levels.specs.Lines.{sampleOf, pixelOf};
+ghost use Rattle.levels.specs.Lines.{lineSample, linesPixel};
 ghost use Rattle.levels.specs.Room.{Room, Rooms};
 ghost use Rattle.levels.specs.Luma.{SamplesServed};
 ghost use Rattle.row.specs.Row.{pixelIn, rowBy, Made, Every, Abreast};
@@ -79,7 +79,7 @@ fn luma_plane(line: Line, a0: &[u16], a1: &[u16], a2: &[u16], b: &mut [u16])
     requires { ⌜ length (now a2) ≡ length (now a0) ⌝ }
     requires { ⌜ length (now b) ≡ length (now a0) ⌝ }
     requires { ⌜ Every SamplesServed (now a0) (now a1) (now a2) ⌝ }
-    ensures { λ _. ⌜ now (b .exit) ≡ rowBy (sampleOf line) (now (a0 .entry)) (now (a1 .entry)) (now (a2 .entry)) ⌝ }
+    ensures { λ _. ⌜ now (b .exit) ≡ rowBy (lineSample line) (now (a0 .entry)) (now (a1 .entry)) (now (a2 .entry)) ⌝ }
 {
     let by = levels::by_lines::divisor_of(line);
     for i in 0..a0.len() {
@@ -101,7 +101,7 @@ pub fn luma(
     requires { ⌜ Rooms lines ⌝ }
     requires { ⌜ Abreast (now a0) (now a1) (now a2) (now b0) (now b1) (now b2) ⌝ }
     requires { ⌜ Every SamplesServed (now a0) (now a1) (now a2) ⌝ }
-    ensures { λ _. ⌜ Made (pixelOf lines) (now (a0 .entry)) (now (a1 .entry)) (now (a2 .entry)) (now (b0 .exit)) (now (b1 .exit)) (now (b2 .exit)) ⌝ }
+    ensures { λ _. ⌜ Made (linesPixel lines) (now (a0 .entry)) (now (a1 .entry)) (now (a2 .entry)) (now (b0 .exit)) (now (b1 .exit)) (now (b2 .exit)) ⌝ }
 {
     luma_plane(lines.first, a0, a1, a2, b0);
     luma_plane(lines.second, a0, a1, a2, b1);

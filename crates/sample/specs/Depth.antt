@@ -1,4 +1,4 @@
--- A depth is a number from 8 to 16; with a luma matrix it is at most 12. These three numbers stand here alone.
+-- Depths: their two ends, and the upper end for a luma matrix. No other definition has these three numbers.
 use mathlib.Core.Path.{_≡_}
 use mathlib.Core.Bool.{Bool, _&&_, cond}
 use Prim.Native.Nat.{ℕ, _-_, _^_, _≤_, _<_}

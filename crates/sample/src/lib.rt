@@ -1,7 +1,7 @@
 // What every crate above speaks of: depths of three kinds that cannot be taken for each other, and a pixel.
 ghost use mathlib.Core.Path.{_≡_};
 ghost use Prim.Native.Nat.{_≤_, _<_};
-ghost use Rattle.sample.specs.Depth.{rgbChecked, lumaChecked, chromaChecked, depthsChecked, atMost, Power};
+ghost use Rattle.sample.specs.Depth.{mostDepth, M, rgbChecked, lumaChecked, chromaChecked, depthsChecked, atMost, Power};
 
 // Three samples, by plane: R, G, B on one side and Y, Cb, Cr on the other.
 pub struct Pixel {
@@ -54,6 +54,13 @@ impl RgbDepth {
         }
         RgbChecked::Depth(RgbDepth(n))
     }
+
+    pub fn largest(self) -> u16
+        requires { ⌜ self .0 ≤ mostDepth ⌝ }
+        ensures { λ r. ⌜ r ≡ M (self .0) ⌝ }
+    {
+        largest(self.0)
+    }
 }
 
 impl LumaDepth {
@@ -72,6 +79,13 @@ impl LumaDepth {
         }
         LumaChecked::Depth(LumaDepth(n))
     }
+
+    pub fn largest(self) -> u16
+        requires { ⌜ self .0 ≤ mostDepth ⌝ }
+        ensures { λ r. ⌜ r ≡ M (self .0) ⌝ }
+    {
+        largest(self.0)
+    }
 }
 
 impl ChromaDepth {
@@ -89,6 +103,13 @@ impl ChromaDepth {
             return ChromaChecked::Outside;
         }
         ChromaChecked::Depth(ChromaDepth(n))
+    }
+
+    pub fn largest(self) -> u16
+        requires { ⌜ self .0 ≤ mostDepth ⌝ }
+        ensures { λ r. ⌜ r ≡ M (self .0) ⌝ }
+    {
+        largest(self.0)
     }
 }
 
@@ -142,8 +163,17 @@ impl Depths {
 
 // 2^bits
 pub fn power(bits: u8) -> u32
-    requires { ⌜ bits ≤ 16 ⌝ }
+    requires { ⌜ bits ≤ mostDepth ⌝ }
     ensures { λ r. ⌜ Power bits r ⌝ }
 {
     1u32 << bits
+}
+
+// M, the largest sample of a depth.
+pub fn largest(depth: u8) -> u16
+    requires { ⌜ depth ≤ mostDepth ⌝ }
+    ensures { λ r. ⌜ r ≡ M depth ⌝ }
+{
+    let count = power(depth);
+    (count - 1) as u16
 }

@@ -34,11 +34,11 @@ agree (YCgCoR added) d rgbFull yccFull =
     eqb (d .luma .0) (d .chroma .0) && (eqb (d .chroma .0) (d .rgb .0 + added) && same rgbFull yccFull)
 
 -- of the settings that agree, those that lose nothing
-abbrev pub lossless : Family → Depths → Bool
-lossless Identity d = true
-lossless (Luma k) d = false
-lossless YCgCo d = eqb (d .chroma .0) (d .luma .0 + 1)
-lossless (YCgCoR added) d = true
+abbrev pub isLossless : Family → Depths → Bool
+isLossless Identity d = true
+isLossless (Luma k) d = false
+isLossless YCgCo d = eqb (d .chroma .0) (d .luma .0 + 1)
+isLossless (YCgCoR added) d = true
 
 abbrev pub isLuma : Family → Bool
 isLuma Identity = false

@@ -8,22 +8,22 @@ use Rattle.setting.specs.declared.matrix.Matrix.{Matrix}
 use Rattle.setting.specs.declared.matrix.Matrix.the-variants.{Served, Unserved, Unspecified, Reserved}
 
 -- a luma matrix by its KR and KB in ten-thousandths; KG is what is left of one
-abbrev pub luma : ℕ → ℕ → Matrix
-luma kr kb = Served (Luma (weights kr kb))
+abbrev pub lumaMatrix : ℕ → ℕ → Matrix
+lumaMatrix kr kb = Served (Luma (weights kr kb))
 
 -- codes 0 to 16 in their order
 abbrev pub matrices : List Matrix
 matrices =
     Served Identity  -- 0
-    ∷ luma 2126 722  -- 1
+    ∷ lumaMatrix 2126 722  -- 1
     ∷ Unspecified  -- 2
     ∷ Reserved  -- 3
-    ∷ luma 3000 1100  -- 4
-    ∷ luma 2990 1140  -- 5
-    ∷ luma 2990 1140  -- 6
-    ∷ luma 2120 870  -- 7
+    ∷ lumaMatrix 3000 1100  -- 4
+    ∷ lumaMatrix 2990 1140  -- 5
+    ∷ lumaMatrix 2990 1140  -- 6
+    ∷ lumaMatrix 2120 870  -- 7
     ∷ Served YCgCo  -- 8
-    ∷ luma 2627 593  -- 9
+    ∷ lumaMatrix 2627 593  -- 9
     ∷ Unserved  -- 10
     ∷ Unserved  -- 11
     ∷ Unserved  -- 12

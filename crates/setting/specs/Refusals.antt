@@ -7,10 +7,10 @@ use Rattle.sample.specs.Depth.{depthsOf}
 use Rattle.sample.specs.declared.Depths.{Depths}
 use Rattle.sample.specs.declared.DepthsChecked.{DepthsChecked}
 use Rattle.sample.specs.declared.DepthsChecked.the-variants as checked
-use Rattle.refusal.specs.Table.{Row, row, first, plain}
+use Rattle.refusal.specs.Table.{TableRow, row, first, plain}
 use Rattle.setting.specs.Matrix.{matrixOf}
 use Rattle.setting.specs.Label.{primariesLabel, transferLabel, isReserved}
-use Rattle.setting.specs.Agreement.{depthsServed, agree, lossless, isLuma}
+use Rattle.setting.specs.Agreement.{depthsServed, agree, isLossless, isLuma}
 use Rattle.setting.specs.declared.Call.{Call}
 use Rattle.setting.specs.declared.Call.the-variants.{Forward, Reverse, Meter, ImageCheck}
 use Rattle.setting.specs.declared.Setting.{Setting}
@@ -47,10 +47,10 @@ abbrev pub answers : Call → Family → Depths → Bool
 answers Forward f d = true
 answers Reverse f d = true
 answers Meter f d = isLuma f
-answers ImageCheck f d = lossless f d
+answers ImageCheck f d = isLossless f d
 
 -- the rows on codes
-abbrev pub codeRows : Matrix → ℕ → ℕ → List Row
+abbrev pub codeRows : Matrix → ℕ → ℕ → List TableRow
 codeRows m primaries transfer =
     row 1 (eqb (standing m) 1)
     ∷ row 2 (eqb (standing m) 2)
@@ -60,14 +60,14 @@ codeRows m primaries transfer =
     ∷ []
 
 -- the rows on depths, flags and what is asked
-abbrev pub depthRows : Call → Family → Setting → List Row
+abbrev pub depthRows : Call → Family → Setting → List TableRow
 depthRows call f s =
     row 6 (not (depthsServed f (s .«rgb_depth») (s .«y_depth») (s .«c_depth»)))
     ∷ row 7 (not (agree f (depths s) (s .«rgb_full») (s .«ycc_full»)))
     ∷ row 11 (not (answers call f (depths s)))
     ∷ []
 
-abbrev pub table : Call → Setting → List Row
+abbrev pub table : Call → Setting → List TableRow
 table call s = codeRows (matrixOf (s .matrix)) (s .primaries) (s .transfer) ++ depthRows call (family s) s
 
 -- the first of these rows that applies, or 0

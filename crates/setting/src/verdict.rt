@@ -4,7 +4,7 @@ ghost use mathlib.Core.Bool.{_&&_, _||_};
 ghost use Prim.Native.Nat.{_+_};
 ghost use lib.Dec.{eqb};
 ghost use Rattle.refusal.specs.Table.{first};
-ghost use Rattle.setting.specs.Agreement.{mostFor, agree, lossless, isLuma, same};
+ghost use Rattle.setting.specs.Agreement.{mostFor, agree, isLossless, isLuma, same};
 ghost use Rattle.setting.specs.Refusals.{standing, familyOf, answers, codeRows, depthRows, servedDepths, servedBy, judged, verdictOf};
 use crate::Call;
 use crate::Setting;
@@ -160,7 +160,7 @@ fn is_luma(family: Family) -> bool
 }
 
 fn is_lossless(family: Family, depths: Depths) -> bool
-    ensures { λ r. ⌜ r ≡ lossless family depths ⌝ }
+    ensures { λ r. ⌜ r ≡ isLossless family depths ⌝ }
 {
     let luma = depths.luma.0;
     let chroma = depths.chroma.0;

@@ -2,7 +2,7 @@
 use Prim.Native.Nat.{ℕ, _+_, _≤_}
 use lib.IntN.{ℤ, pos, _+ℤ_, _-ℤ_, _*ℤ_}
 use Rattle.whole.specs.Whole.{half, round, Clip, sample}
-use Rattle.sample.specs.Depth.{H}
+use Rattle.sample.specs.Depth.{mostDepth, H}
 use Rattle.sample.specs.declared.Depths.{Depths}
 use Rattle.sample.specs.declared.Pixel.{Pixel}
 
@@ -91,10 +91,10 @@ losslessReverse d p = record { p0 = RBack d p; p1 = GBack d p; p2 = BBack d p }
 pub record Roomy (d : Depths) : Type 0 where
   pub chroma-room : d .rgb .0 + 1 ≤ d .chroma .0
   pub luma-room : d .rgb .0 ≤ d .luma .0
-  pub chroma-most : d .chroma .0 ≤ 16
+  pub chroma-most : d .chroma .0 ≤ mostDepth
 
 -- depths that the lossy formulas take
 pub record Plain (d : Depths) : Type 0 where
-  pub rgb-most : d .rgb .0 ≤ 16
+  pub rgb-most : d .rgb .0 ≤ mostDepth
   pub chroma-some : 1 ≤ d .chroma .0
-  pub chroma-most : d .chroma .0 ≤ 16
+  pub chroma-most : d .chroma .0 ≤ mostDepth

@@ -10,7 +10,7 @@ use Rattle.picture.specs.Picture.{Picture, picture, EveryPixel}
 use Rattle.picture.specs.Verdict.{pictureVerdict}
 use Rattle.picture.proofs.VerdictLaws.{own-side-again}
 use Rattle.picture.proofs.Accepted.{accepted-of, is-ready, sides-served, pixels-inside}
-use Rattle.image.specs.Image.{answerFound, answerBy, imageAnswer}
+use Rattle.image.specs.Image.{answerFound, imageBy, imageAnswer}
 use borrow.Author.Needs.{needs}
 use Rattle.image.proofs.check_image.Statement.{statement}
 use Rattle.image.proofs.check_image.Tie as tie
@@ -28,7 +28,7 @@ answered : (c : tie.After-first-sourceless) → answerFound (c .first-sourceless
 unfolding imageAnswer
 answered c =
     let s = c .before .before .before .before .before .before .before .before in
-    ap answerFound (c .first-sourceless .ensures) ∙ ap (λ v. answerBy v (lent s)) (sym (judged (c .before .before .before .before) ∙ c .before .before .served .given .1))
+    ap answerFound (c .first-sourceless .ensures) ∙ ap (λ v. imageBy v (lent s)) (sym (judged (c .before .before .before .before) ∙ c .before .before .served .given .1))
 
 judge-requires : tie.Need-judge-requires
 judge-requires c κs = search needs

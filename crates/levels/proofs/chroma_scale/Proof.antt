@@ -6,6 +6,9 @@ use Rattle.levels.proofs.chroma_scale.Tie as tie
 largest-requires : tie.Need-largest-requires
 largest-requires c κs = search needs
 
+cast-times : tie.Need-cast-times
+cast-times c = search needs
+
 sub-power : tie.Need-sub-power
 sub-power c = search needs
 
@@ -37,4 +40,4 @@ returns-2 : tie.Need-returns-2
 returns-2 c = rw (c .before .if1 .left, c .power2 .ensures .is)
 
 pub chroma-scale-spec : {M : Type 1} → statement M
-chroma-scale-spec = tie.close (tie.spec largest-requires sub-power power-requires cast-plus returns sub-power-2 power-requires-2 cast-step mul-times mul-plus returns-2)
+chroma-scale-spec = tie.close (tie.spec largest-requires cast-times sub-power power-requires cast-plus returns sub-power-2 power-requires-2 cast-step mul-times mul-plus returns-2)

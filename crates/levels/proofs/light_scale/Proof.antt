@@ -6,6 +6,9 @@ use Rattle.levels.proofs.light_scale.Tie as tie
 largest-requires : tie.Need-largest-requires
 largest-requires c κs = search needs
 
+cast-times : tie.Need-cast-times
+cast-times c = search needs
+
 returns : tie.Need-returns
 returns c = rw (c .before .if1 .taken, c .largest .ensures)
 
@@ -28,4 +31,4 @@ returns-2 : tie.Need-returns-2
 returns-2 c = rw (c .before .if1 .left, c .power .ensures .is)
 
 pub light-scale-spec : {M : Type 1} → statement M
-light-scale-spec = tie.close (tie.spec largest-requires returns sub-power power-requires cast-step mul-times mul-plus returns-2)
+light-scale-spec = tie.close (tie.spec largest-requires cast-times returns sub-power power-requires cast-step mul-times mul-plus returns-2)

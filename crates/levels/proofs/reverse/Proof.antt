@@ -1,6 +1,6 @@
 -- `levels::reverse` meets its contract: the lines of the setting give the pixel of the printed formulas.
 use mathlib.Core.Path.{_∙_, ap}
-use Rattle.levels.specs.Lines.{pixelOf}
+use Rattle.levels.specs.Lines.{linesPixel}
 use Rattle.levels.proofs.Pixels.{reverse-law}
 use Rattle.levels.proofs.Served.{reverse-rooms}
 use Rattle.levels.proofs.reverse.Statement.{statement}
@@ -13,7 +13,7 @@ returns : tie.Need-returns
 returns c =
     let a = c .before .args in
     let p = c .before .pre in
-    c .pixel-of .ensures ∙ ap (λ l. pixelOf l (a .p)) (p .1 .0) ∙ reverse-law (a .s) (p .0) (a .p)
+    c .pixel-of .ensures ∙ ap (λ l. linesPixel l (a .p)) (p .1 .0) ∙ reverse-law (a .s) (p .0) (a .p)
 
 pub reverse-spec : {M : Type 1} → statement M
 reverse-spec = tie.close (tie.spec pixel-of-requires returns)

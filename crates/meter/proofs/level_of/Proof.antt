@@ -1,7 +1,7 @@
 -- `meter::level_of` meets its contract: the level on the scale of the kind.
 use mathlib.Core.Path.{_∙_, ap}
 use borrow.Author.Needs.{needs}
-use Rattle.meter.specs.Level.{quotient, levelOf}
+use Rattle.meter.specs.Level.{floatQuotient, levelOf}
 use Rattle.meter.proofs.Scales.{measurable}
 use Rattle.meter.proofs.level_of.Statement.{statement}
 use Rattle.meter.proofs.level_of.Tie as tie
@@ -17,7 +17,7 @@ level-requires c κs =
 
 returns : tie.Need-returns
 unfolding levelOf
-returns c = c .level .ensures ∙ ap (λ s. quotient (c .before .before .args .v) s) (c .before .scale-of .ensures)
+returns c = c .level .ensures ∙ ap (λ s. floatQuotient (c .before .before .args .v) s) (c .before .scale-of .ensures)
 
 pub level-of-spec : {M : Type 1} → statement M
 level-of-spec = tie.close (tie.spec scale-of-requires level-requires returns)

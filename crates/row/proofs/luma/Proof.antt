@@ -1,7 +1,7 @@
 -- `row::luma` meets its contract: what was prepared for a luma matrix is its lines.
 use mathlib.Core.Path.{_≡_, sym, ap, _∙_, subst}
 use mathlib.Core.Bool.{true≢false}
-use Rattle.levels.specs.Lines.{pixelOf}
+use Rattle.levels.specs.Lines.{linesPixel}
 use Rattle.levels.specs.Room.{Rooms}
 use Rattle.pixel.specs.Pixel.{luma, lines}
 use Rattle.row.proofs.RowLaws.{rooms, by-lines, made-same}
@@ -37,7 +37,7 @@ returns c =
     let l = c .before .before .before .before .before .before .before .before .before .before .before .prepared .given .0 .0 in
     let e = sym (c .before .before .before .before .before .before .before .before .before .before .before .prepared .given .1) ∙ s .pre .1 .0 in
     let found : l ≡ lines (s .args .way) (s .args .s) = cc in
-    made-same (pixelOf l) (luma (s .args .way) (s .args .s)) (s .args .a0 .now) (s .args .a1 .now) (s .args .a2 .now) (λ p. ap (λ x. pixelOf x p) found ∙ by-lines (s .args .way) (s .args .s) (s .pre .0) p) (c .before .before .before .before .before .before .luma .ensures)
+    made-same (linesPixel l) (luma (s .args .way) (s .args .s)) (s .args .a0 .now) (s .args .a1 .now) (s .args .a2 .now) (λ p. ap (λ x. linesPixel x p) found ∙ by-lines (s .args .way) (s .args .s) (s .pre .0) p) (c .before .before .before .before .before .before .luma .ensures)
 
 returns-2 : tie.Need-returns-2
 returns-2 c =

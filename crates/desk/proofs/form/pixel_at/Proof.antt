@@ -1,5 +1,5 @@
 -- `desk::form::pixel_at` meets its contract: word by word.
-use Rattle.desk.specs.Form.{pixelAt}
+use Rattle.desk.specs.Form.{pixelFrom}
 use borrow.Author.Needs.{needs}
 use Rattle.desk.proofs.form.pixel_at.Statement.{statement}
 use Rattle.desk.proofs.form.pixel_at.Tie as tie
@@ -20,7 +20,7 @@ earlier-requires-2 : tie.Need-earlier-requires-2
 earlier-requires-2 c κs = search needs
 
 returns : tie.Need-returns
-unfolding pixelAt
+unfolding pixelFrom
 returns c = rw (c .earlier2 .ensures, c .before .earlier .ensures, c .before .before .sample-at3 .ensures, c .before .before .before .sample-at2 .ensures, c .before .before .before .before .sample-at .ensures)
 
 pub pixel-at-spec : {M : Type 1} → statement M

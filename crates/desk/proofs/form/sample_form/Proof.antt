@@ -2,7 +2,7 @@
 use Prim.Native.Nat.{_≤_}
 use native.Mathlib.Omega.{arith}
 use borrow.Author.Tests.{lt-ltb, le-ltb, eq-eqb, ne-eqb}
-use Rattle.meter.specs.Level.{planeOf}
+use Rattle.meter.specs.Level.{planeNumber}
 use Rattle.meter.specs.declared.SampleKind.{SampleKind}
 use Rattle.meter.specs.declared.SampleKind.the-variants.{Y, Cb, Cr}
 use Rattle.desk.specs.Form.{sampleForm}
@@ -10,7 +10,7 @@ use borrow.Author.Needs.{needs}
 use Rattle.desk.proofs.form.sample_form.Statement.{statement}
 use Rattle.desk.proofs.form.sample_form.Tie as tie
 
-last-plane : (k : SampleKind) → planeOf k ≤ 2
+last-plane : (k : SampleKind) → planeNumber k ≤ 2
 last-plane Y = omega arith
 last-plane Cb = omega arith
 last-plane Cr = omega arith

@@ -1,5 +1,5 @@
 -- `desk::form::setting_at` meets its contract: word by word.
-use Rattle.desk.specs.Form.{settingAt}
+use Rattle.desk.specs.Form.{settingFrom}
 use borrow.Author.Needs.{needs}
 use Rattle.desk.proofs.form.setting_at.Statement.{statement}
 use Rattle.desk.proofs.form.setting_at.Tie as tie
@@ -50,7 +50,7 @@ earlier-requires-7 : tie.Need-earlier-requires-7
 earlier-requires-7 c κs = search needs
 
 returns : tie.Need-returns
-unfolding settingAt
+unfolding settingFrom
 returns c =
     rw (
       c .earlier7 .ensures,

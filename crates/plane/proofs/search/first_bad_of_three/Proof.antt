@@ -1,7 +1,7 @@
 -- `plane::search::first_bad_of_three` meets its contract: a plane is searched where the planes below it have no bad sample.
 use mathlib.Core.Path.{sym, _∙_}
 use borrow.Author.Needs.{needs}
-use Rattle.plane.specs.First.{orElse, firstOf, badSample}
+use Rattle.plane.specs.First.{orFound, firstOf, badSample}
 use Rattle.plane.proofs.search.first_bad_of_three.Statement.{statement}
 use Rattle.plane.proofs.search.first_bad_of_three.Tie as tie
 
@@ -12,7 +12,7 @@ enum-told : tie.Need-enum-told
 enum-told c = search needs
 
 returns : tie.Need-returns
-unfolding badSample firstOf orElse
+unfolding badSample firstOf orFound
 returns c =
     let told = c .enum-told .given .1 in
     rw (sym (c .before .before .first-bad .ensures) ∙ told) told
@@ -27,7 +27,7 @@ enum-told-3 : tie.Need-enum-told-3
 enum-told-3 c = search needs
 
 returns-2 : tie.Need-returns-2
-unfolding badSample firstOf orElse
+unfolding badSample firstOf orFound
 returns-2 c =
     let told = c .enum-told3 .given .1 in
     rw (
@@ -42,7 +42,7 @@ first-bad-requires-3 : tie.Need-first-bad-requires-3
 first-bad-requires-3 c κs = search needs
 
 returns-3 : tie.Need-returns-3
-unfolding badSample firstOf orElse
+unfolding badSample firstOf orFound
 returns-3 c =
     rw (
       sym (c .before .before .before .before .before .before .first-bad .ensures) ∙ c .before .before .before .before .enum-told2 .given .1,

@@ -5,7 +5,7 @@ use native.Mathlib.Omega.{arith}
 use borrow.Author.Needs.{needs}
 use lib.ListN.{length}
 use Rattle.levels.specs.Luma.{SamplesServed}
-use Rattle.levels.specs.Lines.{sampleOf}
+use Rattle.levels.specs.Lines.{lineSample}
 use Rattle.plane.proofs.Tables.{Filled, filled-none, filled-more, filled-all}
 use Rattle.row.specs.Row.{pixelIn}
 use Rattle.row.proofs.each.luma_plane.Statement.{statement}
@@ -13,7 +13,7 @@ use Rattle.row.proofs.each.luma_plane.Tie as tie
 
 abbrev Inv-loop : tie.InvT-loop
 Inv-loop line a0 a1 a2 b₀ by i₀ i-end b i =
-    (i ≤ i-end) × ((i-end ≡ length a0) × Filled (λ n. sampleOf line (pixelIn a0 a1 a2 n)) (length a0) b i)
+    (i ≤ i-end) × ((i-end ≡ length a0) × Filled (λ n. lineSample line (pixelIn a0 a1 a2 n)) (length a0) b i)
 
 abbrev μ-loop : tie.MeasureT-loop
 μ-loop line a0 a1 a2 b₀ by i₀ i-end b i = i-end - i
@@ -49,7 +49,7 @@ loop-again : tie.Need-loop-again Inv-loop μ-loop
 loop-again c =
     let l = c .before .before .before .loop in
     let line = c .before .before .before .before .before .before .before .before .before .args .line in
-    (omega arith, (refl, filled-more _ _ _ _ _ (omega arith) (c .sample-by .ensures ∙ ap (sampleOf line) (c .before .pixel-in .ensures)) (l .inv .1 .1)))
+    (omega arith, (refl, filled-more _ _ _ _ _ (omega arith) (c .sample-by .ensures ∙ ap (lineSample line) (c .before .pixel-in .ensures)) (l .inv .1 .1)))
 
 same-length : tie.Need-same-length Inv-loop μ-loop
 same-length c = search needs

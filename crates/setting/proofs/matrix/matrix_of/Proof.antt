@@ -4,7 +4,7 @@ use Prim.Native.Nat.{ℕ, _≤_}
 use native.Mathlib.Omega.{arith}
 use borrow.Author.Needs.{needs}
 use lib.ListN.{List·getD-eq-default}
-use Rattle.setting.specs.Matrix.{matrixOf, matrices, luma}
+use Rattle.setting.specs.Matrix.{matrixOf, matrices, lumaMatrix}
 use Rattle.setting.specs.declared.matrix.Matrix.the-variants as matrix
 use Rattle.setting.proofs.Ranges.{each}
 use Rattle.setting.proofs.matrix.matrix_of.Statement.{statement}
@@ -104,7 +104,7 @@ unfolding matrixOf
 returns-10 c =
     let n = c .before .before .before .args .code in
     rw (c .of5 .ensures)
-    (each (λ n. luma 2990 1140 ≡ matrixOf n) 5 2 (refl, (refl, tt)) n (from-5 n (others (c .before .before))) (omega (arith, c .before .if1 .taken)))
+    (each (λ n. lumaMatrix 2990 1140 ≡ matrixOf n) 5 2 (refl, (refl, tt)) n (from-5 n (others (c .before .before))) (omega (arith, c .before .if1 .taken)))
 
 returns-11 : tie.Need-returns-11
 unfolding matrixOf
