@@ -1,6 +1,6 @@
 -- The verdict on a picture, by what the code has found out so far.
 use mathlib.Core.Path.{_≡_, refl, sym, ap, subst}
-use mathlib.Core.Bool.{true≢false}
+use mathlib.Core.Bool.{false, true≢false, cond}
 use mathlib.Core.List.{List, [], _∷_}
 use Prim.Native.Nat.{ℕ}
 use borrow.Author.Tests.{eqb-true, eqb-false, ne-eqb}
@@ -23,7 +23,7 @@ use Rattle.pixel.specs.Ready.{Ready}
 use Rattle.pixel.specs.declared.Way.{Way}
 use Rattle.pixel.proofs.ReadyLaws.{ready}
 use Rattle.picture.specs.Picture.{Picture, sideOfPicture}
-use Rattle.picture.specs.Verdict.{beyondDepth, pastServed, past, pictureVerdict}
+use Rattle.picture.specs.Verdict.{beyondDepth, pastServed, past, numberBefore10, pictureVerdict}
 
 -- a verdict is one of the two
 never-both : (x : Served) (r : Refusal) → verdict.Served x ≡ verdict.Refused r → ⊥
@@ -62,12 +62,15 @@ module _ (call : Call) (way : Way) (s : Setting) (a : Picture) (others : List Si
   abbrev sizes : ℕ
   sizes = sizeRefusal (a .width) (a .height) (sideOfPicture a ∷ others)
 
+  setting-first : eqb (refusalOf call s) 0 ≡ false → numberBefore10 call s a others ≡ refusalOf call s
+  setting-first some = ap (λ b. cond b sizes (refusalOf call s)) some
+
   pub by-setting : (r : Refusal) → verdictOf call s ≡ verdict.Refused r → verdict.Refused r ≡ pictureVerdict call way s a others
   unfolding pictureVerdict judged
   by-setting r e =
       let t = told-refused (refusalOf call s) (served s) r e in
       let some = ne-eqb (refusalOf call s) 0 (t .0) in
-      rw (some, some, t .1)
+      rw (setting-first some, some, t .1)
 
   pub by-size : refusalOf call s ≡ 0 → (sizes ≡ 0 → ⊥) → verdict.Refused (plain sizes) ≡ pictureVerdict call way s a others
   unfolding pictureVerdict judged
