@@ -7,7 +7,7 @@ use native.Mathlib.Omega.{arith}
 use lib.IntN.{ℤ, pos, natAbs, _+ℤ_, _-ℤ_, _*ℤ_}
 use Rattle.whole.specs.Whole.{round}
 use Rattle.whole.proofs.Difference.{parts, parts-of, parts-scale, parts-times}
-use Rattle.fraction.specs.Fraction.{Frac, _⊕_, _⊖_, _⊗_, _÷_, part, _≈_, Round}
+use Rattle.fraction.specs.Fraction.{Frac, _⊕_, _⊖_, _⊗_, _÷_, part, _≈_, SameValue, Round}
 use Rattle.fraction.proofs.Same.{ring, Round-≈, to-parts, by-parts, ≈-refl, ≈-sym, ≈-trans}
 
 pub record Value (x : Frac) (z : ℤ) (D : ℕ) : Type 0 where
@@ -113,5 +113,6 @@ pub Round-value : {x : Frac} {z : ℤ} {D : ℕ} → Value x z D → 0 < D → R
 Round-value u h = Round-≈ (u .proper) h (u .is)
 
 -- two fractions of one value
-pub both : {x y : Frac} {z : ℤ} {D : ℕ} → 0 < D → Value x z D → Value y z D → x ≈ y
-both {x} {y} {z} {D} h u v = ≈-trans {y = part z D} h (u .is) (≈-sym (v .is))
+pub both : {x y : Frac} {z : ℤ} {D : ℕ} → 0 < D → Value x z D → Value y z D → SameValue x y
+both {x} {y} {z} {D} h u v =
+    record { left-proper = u .proper; right-proper = v .proper; equal = ≈-trans {y = part z D} h (u .is) (≈-sym (v .is)) }

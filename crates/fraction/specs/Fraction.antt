@@ -1,6 +1,6 @@
--- Exact fractions: a whole number over a natural number that is not 0. Nothing is reduced and nothing is rounded, but by Round.
+-- Exact fractions: a whole number over a natural number. Nothing is reduced, and nothing is rounded but by Round.
 use mathlib.Core.Path.{_≡_}
-use Prim.Native.Nat.{ℕ, _*_}
+use Prim.Native.Nat.{ℕ, _*_, _<_}
 use lib.IntN.{ℤ, pos, natAbs, _+ℤ_, _-ℤ_, _*ℤ_}
 use Rattle.whole.specs.Whole.{round}
 
@@ -34,6 +34,12 @@ x ÷ y = part (x .num *ℤ pos (y .den)) (x .den * natAbs (y .num))
 -- the same value
 pub record _≈_ (x y : Frac) : Type 0 where
   pub crossed : x .num *ℤ pos (y .den) ≡ y .num *ℤ pos (x .den)
+
+-- and neither is over 0
+pub record SameValue (x y : Frac) : Type 0 where
+  pub left-proper : 0 < x .den
+  pub right-proper : 0 < y .den
+  pub equal : x ≈ y
 
 -- Round, of a fraction
 abbrev pub Round : Frac → ℤ

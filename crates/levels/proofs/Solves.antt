@@ -6,7 +6,7 @@ use native.Mathlib.Omega.{arith}
 use lib.IntN.{ℤ, pos, _+ℤ_, _-ℤ_, _*ℤ_}
 use Rattle.whole.proofs.Difference.{parts, parts-of}
 use Rattle.whole.proofs.Closers.{same}
-use Rattle.fraction.specs.Fraction.{Frac, _⊖_, _÷_, _≈_}
+use Rattle.fraction.specs.Fraction.{Frac, _⊖_, _÷_, SameValue}
 use Rattle.fraction.proofs.Same.{ring}
 use Rattle.fraction.proofs.Value.{Value, lift, rename, both, itself}
 use Rattle.levels.specs.Paper.{EY, EPB, EPR, ER, EG, EB, Solved}
@@ -48,14 +48,14 @@ module _ (k : Weights) (h : Shares k) {x y z : Frac} {u v w : ℤ} {D : ℕ} (so
       refl
       (printed-y k h (lift g (printed-r k h hx hy hz)) (rename refl (omega arith) (g-value k h hx hy hz)) (lift g (printed-b k h hx hy hz)))
 
-  solves-42 : EY k (ER k x y z) (EG k x y z) (EB k x y z) ≈ x
+  solves-42 : SameValue (EY k (ER k x y z) (EG k x y z) (EB k x y z)) x
   solves-42 =
       let a = all-some k h in
       both (mul-pos a (mul-pos (h .green) (mul-pos a some))) sum-back (rename refl (omega arith) (lift n (lift (n * g) hx)))
 
   -- a colour that is EY and 2(1 - K) of a difference gives the difference back
   difference-back : (i j : ℕ) → i + j ≡ n → 0 < j → {c d : Frac} {t : ℤ} → Value d t D → Value c (pos n *ℤ u +ℤ pos (2 * j) *ℤ t) (n * D)
-      → (c ⊖ EY k (ER k x y z) (EG k x y z) (EB k x y z)) ÷ twice i n ≈ d
+      → SameValue ((c ⊖ EY k (ER k x y z) (EG k x y z) (EB k x y z)) ÷ twice i n) d
   difference-back i j e l {t = t} hd hc =
       let a = all-some k h in
       let p = parts-of u in
@@ -69,10 +69,10 @@ module _ (k : Weights) (h : Shares k) {x y z : Frac} {u v w : ℤ} {D : ℕ} (so
       (over-twice i j n e a (g * (n * D)) l (lift n (lift g hc)) sum-back))
       (rename refl (omega arith) (lift (2 * j * (g * n)) hd))
 
-  solves-43 : EPB k (ER k x y z) (EG k x y z) (EB k x y z) ≈ y
+  solves-43 : SameValue (EPB k (ER k x y z) (EG k x y z) (EB k x y z)) y
   solves-43 = difference-back (k .kb) (k .kr + g) (all-but-blue k h) (omega arith) hy (printed-b k h hx hy hz)
 
-  solves-44 : EPR k (ER k x y z) (EG k x y z) (EB k x y z) ≈ z
+  solves-44 : SameValue (EPR k (ER k x y z) (EG k x y z) (EB k x y z)) z
   solves-44 = difference-back (k .kr) (g + k .kb) (all-but-red k h) (omega arith) hz (printed-r k h hx hy hz)
 
 -- any three fractions share a denominator, and so the reverse solves for any levels

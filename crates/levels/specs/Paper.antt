@@ -3,7 +3,7 @@ use mathlib.Core.Bool.{Bool, true, false}
 use Prim.Native.Nat.{ℕ, _*_, _-_, _^_}
 use lib.IntN.{pos, _+ℤ_, _-ℤ_}
 use Rattle.whole.specs.Whole.{Clip}
-use Rattle.fraction.specs.Fraction.{Frac, _⊕_, _⊖_, _⊗_, _÷_, part, whole, _≈_, Round}
+use Rattle.fraction.specs.Fraction.{Frac, _⊕_, _⊖_, _⊗_, _÷_, part, whole, SameValue, Round}
 use Rattle.sample.specs.Depth.{M, H}
 use Rattle.sample.specs.declared.RgbDepth.{RgbDepth}
 use Rattle.sample.specs.declared.LumaDepth.{LumaDepth}
@@ -78,9 +78,9 @@ EG k ey epb epr = (ey ⊖ KR k ⊗ ER k ey epb epr ⊖ KB k ⊗ EB k ey epb epr)
 
 -- ER, EG and EB, put into (42), (43) and (44), give EY, EPB and EPR back
 pub record Solved (k : Weights) (ey epb epr : Frac) : Type 0 where
-  pub in-42 : EY k (ER k ey epb epr) (EG k ey epb epr) (EB k ey epb epr) ≈ ey
-  pub in-43 : EPB k (ER k ey epb epr) (EG k ey epb epr) (EB k ey epb epr) ≈ epb
-  pub in-44 : EPR k (ER k ey epb epr) (EG k ey epb epr) (EB k ey epb epr) ≈ epr
+  pub in-42 : SameValue (EY k (ER k ey epb epr) (EG k ey epb epr) (EB k ey epb epr)) ey
+  pub in-43 : SameValue (EPB k (ER k ey epb epr) (EG k ey epb epr) (EB k ey epb epr)) epb
+  pub in-44 : SameValue (EPR k (ER k ey epb epr) (EG k ey epb epr) (EB k ey epb epr)) epr
 
 -- R, G, B and Y written: Round(M·E) in full range (33), Round(2^s(219·E + 16)) in narrow range (27)
 abbrev pub written : Bool → ℕ → Frac → ℕ
