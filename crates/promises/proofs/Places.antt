@@ -1,6 +1,6 @@
 -- A refusal of 10 names the first bad sample, any other refusal names no place, and no refusal gives anything else. It is shown once of a
 -- verdict, whatever was searched for a bad sample, and then read off each answer on a pixel or a sample.
-use mathlib.Core.Path.{_≡_, refl, sym, ap, _∙_, subst}
+use mathlib.Core.Path.{_≡_, refl, sym, subst}
 use mathlib.Core.Bool.{Bool, true, false, cond}
 use mathlib.Core.List.{List, [], _∷_}
 use Prim.Native.Nat.{ℕ, zero, suc, _<_}
@@ -8,7 +8,7 @@ use native.Mathlib.Omega.{arith}
 use borrow.Author.Tests.{eqb-false, ne-eqb}
 use lib.Dec.{eqb}
 use Rattle.sample.specs.declared.Pixel.{Pixel}
-use Rattle.refusal.specs.Table.{TableRow, first, plain, badAt, nowhere}
+use Rattle.refusal.specs.Table.{TableRow, first, Without, plain, badAt, nowhere}
 use Rattle.refusal.specs.declared.Place.{Place}
 use Rattle.refusal.specs.declared.Refusal.{Refusal}
 use Rattle.plane.specs.First.{IsBadSample, IsFirstBad}
@@ -32,7 +32,7 @@ use Rattle.picture.specs.Verdict.{pastServed, past}
 use Rattle.corkplover.specs.Admit.{topOf, badPixel, badOne, admitted, admittedOne}
 use Rattle.corkplover.specs.Answers.{convertedBy, pixelAnswer, sourceBy, sourceAnswer, readBy, reading, levelsBy, levelsAnswer}
 use Rattle.corkplover.specs.Said.{Said, saidRefusal, pixelSaid, sourceSaid, readingSaid, levelsSaid}
-use Rattle.corkplover.specs.declared.one_pixel.SourceAnswer.the-variants as source
+use Rattle.promises.proofs.Refusals.{picked-number}
 
 -- no samples, no levels and no word on a source
 abbrev pub GivesNothing : Said → Type 0
@@ -68,11 +68,7 @@ module _ (Bad : Place → Type 0) (f : Found) (means : (place : Place) → f ≡
         (subst (Told Bad) (sym (refuses (plain (suc n))))
         (record { ten = λ t. absurd (h t); other = λ t u. refl; alone = λ t. (refl, (refl, refl)) }))
 
--- no row has the number n, so n is not given
-abbrev pub Without : ℕ → List TableRow → Type 0
-Without n [] = Unit
-Without n (r ∷ rs) = (eqb (r .number) n ≡ false) × Without n rs
-
+-- a number that no row has is not given
 not-here : (n k m : ℕ) (t : Bool) → eqb k n ≡ false → (m ≡ n → ⊥) → cond t k m ≡ n → ⊥
 not-here n k m true h f e = eqb-false k n h e
 not-here n k m false h f e = f e
@@ -102,10 +98,6 @@ bad-pixel w s p place e = at-in-planes-means _ 1 1 1 _ place .0 e
 bad-one : (k : SampleKind) (s : Setting) (v : ℕ) (place : Place) → badOne k (depths s) v ≡ found.At place → BadSampleOf k s v place
 bad-one k s v place e = at-means (v ∷ []) (planeNumber k) 1 1 1 (topOf k (depths s)) place .0 e
 
-picked : (b : Bool) → sourceSaid (cond b source.Yes source.NoSource) .number ≡ 0
-picked true = refl
-picked false = refl
-
 -- each call on a pixel, and the meter of one sample
 module _ (c : Call) (w : Way) (s : Setting) (p : Pixel) (say : Verdict → Said) (free : (x : Served) → say (verdict.Served x) .number ≡ 0)
     (refuses : (r : Refusal) → say (verdict.Refused r) ≡ saidRefusal r)
@@ -121,7 +113,7 @@ pixel-told w s p = on-pixel (callOf w) w s p (λ v. pixelSaid (convertedBy w p v
 
 pub source-told : (s : Setting) (p : Pixel) → Told (BadPixel Reverse s p) (sourceSaid (sourceAnswer s p))
 unfolding sourceAnswer
-source-told s p = on-pixel call.ImageCheck Reverse s p (λ v. sourceSaid (sourceBy p v)) (λ x. picked (hasSource x p)) (λ r. refl)
+source-told s p = on-pixel call.ImageCheck Reverse s p (λ v. sourceSaid (sourceBy p v)) (λ x. picked-number (hasSource x p)) (λ r. refl)
 
 pub levels-told : (s : Setting) (p : Pixel) → Told (BadPixel Reverse s p) (levelsSaid (levelsAnswer s p))
 unfolding levelsAnswer

@@ -1,16 +1,13 @@
 -- Demand 1 on a pixel or a sample: each refusal number is given exactly if its row of the table applies and no earlier one does. It is
 -- shown once of what every such call asks at its door, and then read off each answer.
-use mathlib.Core.Path.{_≡_, refl, sym, ap, _∙_}
+use mathlib.Core.Path.{_≡_, refl, sym, _∙_}
 use mathlib.Core.Bool.{Bool, true, false, cond}
-use mathlib.Core.List.{List, [], _∷_, _++_}
+use mathlib.Core.List.{List, [], _∷_}
 use Prim.Native.Nat.{ℕ, zero, suc, _<_}
 use native.Mathlib.Omega.{arith}
 use borrow.Author.Tests.{ne-eqb}
-use lib.Dec.{eqb}
 use Rattle.sample.specs.declared.Pixel.{Pixel}
-use Rattle.refusal.specs.Table.{TableRow, row, first, orElse, FirstIs, NoRow, Numbered, plain, badAt, nowhere}
-use Rattle.refusal.specs.declared.Place.{Place}
-use Rattle.refusal.specs.declared.Refusal.{Refusal}
+use Rattle.refusal.specs.Table.{TableRow, row, first, orElse, FirstIs, NoRow, Numbered}
 use Rattle.refusal.proofs.TableLaws.{first-append, is-first, first-is, no-row, row-none}
 use Rattle.plane.specs.declared.search.Found.{Found}
 use Rattle.plane.specs.declared.search.Found.the-variants as found
@@ -25,7 +22,7 @@ use Rattle.meter.specs.declared.SampleKind.{SampleKind}
 use Rattle.pixel.specs.Pixel.{callOf}
 use Rattle.pixel.specs.Source.{hasSource}
 use Rattle.pixel.specs.declared.Way.{Way}
-use Rattle.pixel.specs.declared.Way.the-variants.{Forward, Reverse}
+use Rattle.pixel.specs.declared.Way.the-variants.{Reverse}
 use Rattle.picture.specs.Verdict.{past}
 use Rattle.corkplover.specs.Admit.{badPixel, badOne, admitted, admittedOne}
 use Rattle.corkplover.specs.Answers.{convertedBy, pixelAnswer, sourceBy, sourceAnswer, readBy, reading, levelsBy, levelsAnswer}
@@ -82,7 +79,7 @@ converted-number : (w : Way) (p : Pixel) (v : Verdict) → pixelSaid (convertedB
 converted-number w p (verdict.Served x) = refl
 converted-number w p (verdict.Refused r) = refl
 
-picked-number : (b : Bool) → sourceSaid (cond b source.Yes source.NoSource) .number ≡ 0
+pub picked-number : (b : Bool) → sourceSaid (cond b source.Yes source.NoSource) .number ≡ 0
 picked-number true = refl
 picked-number false = refl
 

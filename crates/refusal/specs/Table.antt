@@ -33,10 +33,13 @@ pub data NoRow : List TableRow → Type 0 where
   end : NoRow []
   past : {k : ℕ} {rs : List TableRow} → NoRow rs → NoRow (row k false ∷ rs)
 
--- Every row has a number that is not 0.
+-- No row has the number n; and every row has a number that is not 0.
+abbrev pub Without : ℕ → List TableRow → Type 0
+Without n [] = Unit
+Without n (r ∷ rs) = (eqb (r .number) n ≡ false) × Without n rs
+
 abbrev pub Numbered : List TableRow → Type 0
-Numbered [] = Unit
-Numbered (r ∷ rs) = (eqb (r .number) 0 ≡ false) × Numbered rs
+Numbered rs = Without 0 rs
 
 -- a place, and the place that a refusal other than 10 has: none, written as zeros
 abbrev pub at : ℕ → ℕ → ℕ → Place
