@@ -59,7 +59,7 @@ static void check_frames(size_t width)
 }
 
 /* On the black and white picture just made: its source is there, and is gone once the last corner's Cb is changed. */
-static void check_image(size_t width)
+static void image_check(size_t width)
 {
     must(cork_accepted(convert(width, 0)), "the largest frame is not served");
     cork_source ycc = cork_source_of(planes[0], planes[1], planes[2], length, STRIDE);
@@ -84,7 +84,7 @@ int main(void)
             sources[k][length - 1] = 255;
         }
         check_frames(widths[w]);
-        check_image(widths[w]);
+        image_check(widths[w]);
         for (int k = 0; k < 3; k++) {
             free(sources[k]);
             free(planes[k]);

@@ -3,12 +3,12 @@ ghost use Prim.Native.Nat.{_≤_};
 use crate::read;
 use crate::say;
 use corkplover::labels;
-use corkplover::one_pixel;
-use corkplover::one_pixel::PixelAnswer;
-use corkplover::one_pixel::SourceAnswer;
-use corkplover::spot;
-use corkplover::spot::LevelsAnswer;
-use corkplover::spot::Reading;
+use corkplover::meters;
+use corkplover::meters::LevelsAnswer;
+use corkplover::meters::Reading;
+use corkplover::pixels;
+use corkplover::pixels::PixelAnswer;
+use corkplover::pixels::SourceAnswer;
 use meter::SampleKind;
 use sample::Pixel;
 use setting::Setting;
@@ -29,14 +29,14 @@ fn say_source(answer: SourceAnswer) {
 }
 
 fn meter_one(kind: SampleKind, s: Setting, v: u16) {
-    match spot::meter_sample(kind, s, v) {
+    match meters::meter_sample(kind, s, v) {
         Reading::Level(x) => say::level(f32::to_bits(x)),
         Reading::Refused(r) => say::refusal(r),
     }
 }
 
 fn meter_three(s: Setting, p0: u16, p1: u16, p2: u16) {
-    match spot::meter_pixel(s, Pixel { p0, p1, p2 }) {
+    match meters::meter_pixel(s, Pixel { p0, p1, p2 }) {
         LevelsAnswer::Levels(l) => {
             let y = l.y;
             let cb = l.cb;
@@ -56,9 +56,9 @@ fn on_pixel(text: &[u8], at: usize, letter: u8) -> usize
     let s = g.setting;
     let q = p.pixel;
     match letter {
-        b'f' => say_pixel(one_pixel::forward_pixel(s, q)),
-        b'r' => say_pixel(one_pixel::reverse_pixel(s, q)),
-        b's' => say_source(one_pixel::source_pixel(s, q)),
+        b'f' => say_pixel(pixels::forward_pixel(s, q)),
+        b'r' => say_pixel(pixels::reverse_pixel(s, q)),
+        b's' => say_source(pixels::source_pixel(s, q)),
         _ => meter_three(s, q.p0, q.p1, q.p2),
     }
     p.next

@@ -6,7 +6,7 @@ use crate::say;
 use corkplover::frames;
 use frame::FrameAnswer;
 use frame::Size;
-use image::ImageAnswer;
+use image_check::ImageAnswer;
 use setting::Setting;
 
 struct ReadPlane {
@@ -201,7 +201,7 @@ pub fn image_line(text: &[u8], at: usize) -> usize
     let l0 = p0.length;
     let l1 = p1.length;
     let l2 = p2.length;
-    say_image(frames::check_image(
+    say_image(frames::image_check(
         g.setting,
         size(w.value),
         size(h.value),

@@ -5,8 +5,8 @@ use native.Mathlib.Omega.{arith}
 use Rattle.sample.specs.declared.Depths.{Depths}
 use Rattle.sample.specs.declared.Pixel.{Pixel}
 use Rattle.refusal.specs.declared.Refusal.{Refusal}
-use Rattle.plane.specs.declared.search.Found.{Found}
-use Rattle.plane.specs.declared.search.Found.the-variants as found
+use Rattle.planes.specs.declared.search.Found.{Found}
+use Rattle.planes.specs.declared.search.Found.the-variants as found
 use Rattle.setting.specs.Refusals.{depths, served, verdictOf, refusalOf}
 use Rattle.setting.specs.declared.Call.{Call}
 use Rattle.setting.specs.declared.Call.the-variants as call

@@ -18,8 +18,8 @@ use Rattle.pixel.specs.Ready.{Ready}
 use Rattle.pixel.specs.declared.Way.the-variants.{Reverse}
 use Rattle.corkplover.specs.Admit.{admitted, admittedOne}
 use Rattle.corkplover.specs.Answers.{readBy, reading, levelsBy, levelsAnswer}
-use Rattle.corkplover.specs.declared.spot.Reading.the-variants as meter
-use Rattle.corkplover.specs.declared.spot.LevelsAnswer.the-variants as levels
+use Rattle.corkplover.specs.declared.meters.Reading.the-variants as meter
+use Rattle.corkplover.specs.declared.meters.LevelsAnswer.the-variants as levels
 use Rattle.corkplover.proofs.AdmitLaws.{let-in, one-ready}
 
 level-fine : (k : SampleKind) (y : Served) (v : ℕ) → v ≤ 65536 → Ready y → IsNumber (levelOf k (y .«ycc_full») (y .depths .luma) (y .depths .chroma) v)

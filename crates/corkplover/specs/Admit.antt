@@ -4,8 +4,8 @@ use Prim.Native.Nat.{ℕ}
 use Rattle.sample.specs.Depth.{M}
 use Rattle.sample.specs.declared.Depths.{Depths}
 use Rattle.sample.specs.declared.Pixel.{Pixel}
-use Rattle.plane.specs.First.{firstBad}
-use Rattle.plane.specs.declared.search.Found.{Found}
+use Rattle.planes.specs.First.{firstBad}
+use Rattle.planes.specs.declared.search.Found.{Found}
 use Rattle.setting.specs.Refusals.{depths, verdictOf}
 use Rattle.setting.specs.declared.Call.{Call}
 use Rattle.setting.specs.declared.Call.the-variants as call

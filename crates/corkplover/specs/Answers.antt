@@ -13,14 +13,14 @@ use Rattle.pixel.specs.Source.{hasSource}
 use Rattle.pixel.specs.declared.Way.{Way}
 use Rattle.pixel.specs.declared.Way.the-variants.{Reverse}
 use Rattle.corkplover.specs.Admit.{admitted, admittedOne}
-use Rattle.corkplover.specs.declared.one_pixel.PixelAnswer.{PixelAnswer}
-use Rattle.corkplover.specs.declared.one_pixel.PixelAnswer.the-variants as pixel
-use Rattle.corkplover.specs.declared.one_pixel.SourceAnswer.{SourceAnswer}
-use Rattle.corkplover.specs.declared.one_pixel.SourceAnswer.the-variants as source
-use Rattle.corkplover.specs.declared.spot.Reading.{Reading}
-use Rattle.corkplover.specs.declared.spot.Reading.the-variants as meter
-use Rattle.corkplover.specs.declared.spot.LevelsAnswer.{LevelsAnswer}
-use Rattle.corkplover.specs.declared.spot.LevelsAnswer.the-variants as levels
+use Rattle.corkplover.specs.declared.pixels.PixelAnswer.{PixelAnswer}
+use Rattle.corkplover.specs.declared.pixels.PixelAnswer.the-variants as pixel
+use Rattle.corkplover.specs.declared.pixels.SourceAnswer.{SourceAnswer}
+use Rattle.corkplover.specs.declared.pixels.SourceAnswer.the-variants as source
+use Rattle.corkplover.specs.declared.meters.Reading.{Reading}
+use Rattle.corkplover.specs.declared.meters.Reading.the-variants as meter
+use Rattle.corkplover.specs.declared.meters.LevelsAnswer.{LevelsAnswer}
+use Rattle.corkplover.specs.declared.meters.LevelsAnswer.the-variants as levels
 
 -- a pixel either way
 abbrev pub convertedBy : Way → Pixel → Verdict → PixelAnswer

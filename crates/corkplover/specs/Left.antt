@@ -6,7 +6,7 @@ use lib.Ieee.{Float}
 use Rattle.sample.specs.declared.Pixel.{Pixel}
 use Rattle.setting.specs.declared.Setting.{Setting}
 use Rattle.meter.specs.declared.SampleKind.{SampleKind}
-use Rattle.plane.specs.declared.size.Side.{Side}
+use Rattle.planes.specs.declared.size.Side.{Side}
 use Rattle.pixel.specs.declared.Way.{Way}
 use Rattle.picture.specs.Picture.{Picture}
 use Rattle.frame.specs.Frame.{frameAnswer, PlanesLeft}

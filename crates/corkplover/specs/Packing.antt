@@ -10,14 +10,14 @@ use Rattle.setting.specs.declared.Setting.{Setting}
 use Rattle.frame.specs.declared.Size.{Size}
 use Rattle.frame.specs.declared.FrameAnswer.{FrameAnswer}
 use Rattle.frame.specs.declared.FrameAnswer.the-variants as frame
-use Rattle.image.specs.declared.ImageAnswer.{ImageAnswer}
-use Rattle.image.specs.declared.ImageAnswer.the-variants as image
-use Rattle.corkplover.specs.declared.one_pixel.PixelAnswer.{PixelAnswer}
-use Rattle.corkplover.specs.declared.one_pixel.PixelAnswer.the-variants as pixel
-use Rattle.corkplover.specs.declared.spot.Reading.{Reading}
-use Rattle.corkplover.specs.declared.spot.Reading.the-variants as meter
-use Rattle.corkplover.specs.declared.spot.LevelsAnswer.{LevelsAnswer}
-use Rattle.corkplover.specs.declared.spot.LevelsAnswer.the-variants as levels
+use Rattle.image_check.specs.declared.ImageAnswer.{ImageAnswer}
+use Rattle.image_check.specs.declared.ImageAnswer.the-variants as image
+use Rattle.corkplover.specs.declared.pixels.PixelAnswer.{PixelAnswer}
+use Rattle.corkplover.specs.declared.pixels.PixelAnswer.the-variants as pixel
+use Rattle.corkplover.specs.declared.meters.Reading.{Reading}
+use Rattle.corkplover.specs.declared.meters.Reading.the-variants as meter
+use Rattle.corkplover.specs.declared.meters.LevelsAnswer.{LevelsAnswer}
+use Rattle.corkplover.specs.declared.meters.LevelsAnswer.the-variants as levels
 
 -- five fields: 8 bits, 8 bits and three times 16 bits
 abbrev pub packed : ℕ → ℕ → ℕ → ℕ → ℕ → ℕ

@@ -8,16 +8,16 @@ use Rattle.refusal.specs.declared.Place.{Place}
 use Rattle.refusal.specs.declared.Refusal.{Refusal}
 use Rattle.frame.specs.declared.FrameAnswer.{FrameAnswer}
 use Rattle.frame.specs.declared.FrameAnswer.the-variants as frame
-use Rattle.image.specs.declared.ImageAnswer.{ImageAnswer}
-use Rattle.image.specs.declared.ImageAnswer.the-variants as image
-use Rattle.corkplover.specs.declared.one_pixel.PixelAnswer.{PixelAnswer}
-use Rattle.corkplover.specs.declared.one_pixel.PixelAnswer.the-variants as pixel
-use Rattle.corkplover.specs.declared.one_pixel.SourceAnswer.{SourceAnswer}
-use Rattle.corkplover.specs.declared.one_pixel.SourceAnswer.the-variants as source
-use Rattle.corkplover.specs.declared.spot.Reading.{Reading}
-use Rattle.corkplover.specs.declared.spot.Reading.the-variants as meter
-use Rattle.corkplover.specs.declared.spot.LevelsAnswer.{LevelsAnswer}
-use Rattle.corkplover.specs.declared.spot.LevelsAnswer.the-variants as levels
+use Rattle.image_check.specs.declared.ImageAnswer.{ImageAnswer}
+use Rattle.image_check.specs.declared.ImageAnswer.the-variants as image
+use Rattle.corkplover.specs.declared.pixels.PixelAnswer.{PixelAnswer}
+use Rattle.corkplover.specs.declared.pixels.PixelAnswer.the-variants as pixel
+use Rattle.corkplover.specs.declared.pixels.SourceAnswer.{SourceAnswer}
+use Rattle.corkplover.specs.declared.pixels.SourceAnswer.the-variants as source
+use Rattle.corkplover.specs.declared.meters.Reading.{Reading}
+use Rattle.corkplover.specs.declared.meters.Reading.the-variants as meter
+use Rattle.corkplover.specs.declared.meters.LevelsAnswer.{LevelsAnswer}
+use Rattle.corkplover.specs.declared.meters.LevelsAnswer.the-variants as levels
 
 -- the place of a 10 or of a pixel without a source, samples, levels, and the word of a source check: true for yes
 pub record Said : Type 0 where

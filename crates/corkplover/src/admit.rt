@@ -4,7 +4,7 @@ ghost use Rattle.sample.specs.Depth.{ThreeDepths};
 ghost use Rattle.corkplover.specs.Admit.{badPixel, admitted, badOne, admittedOne, topOf};
 use meter::SampleKind;
 use pixel::Way;
-use plane::search::Found;
+use planes::search::Found;
 use sample::Depths;
 use sample::Pixel;
 use setting::Call;
@@ -20,7 +20,7 @@ fn bad_pixel(way: Way, d: Depths, p: Pixel) -> Found
     let a = [p.p0];
     let b = [p.p1];
     let c = [p.p2];
-    plane::search::first_bad_of_three(&a, &b, &c, 1, 1, 1, t.p0, t.p1, t.p2)
+    planes::search::first_bad_of_three(&a, &b, &c, 1, 1, 1, t.p0, t.p1, t.p2)
 }
 
 // The setting in checked kinds, or the refusal of a call on a whole pixel.
@@ -56,7 +56,7 @@ fn bad_one(kind: SampleKind, d: Depths, v: u16) -> Found
     let top = top_of(kind, d);
     let plane = meter::plane_of(kind);
     let a = [v];
-    plane::search::first_bad(&a, plane, 1, 1, 1, top)
+    planes::search::first_bad(&a, plane, 1, 1, 1, top)
 }
 
 // The same for the meter on one sample, which alone is tested.

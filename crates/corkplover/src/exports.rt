@@ -8,10 +8,10 @@ ghost use Rattle.corkplover.specs.Answers.{pixelAnswer};
 ghost use Rattle.corkplover.specs.Packing.{setting, packedPixel};
 ghost use Rattle.corkplover.specs.Left.{ReadingLeft, LevelsLeft};
 use crate::labels;
-use crate::one_pixel;
+use crate::meters;
 use crate::packing;
 use crate::packing::setting_of;
-use crate::spot;
+use crate::pixels;
 use meter::SampleKind;
 use sample::Pixel;
 
@@ -67,7 +67,7 @@ pub extern "C" fn corkplover_forward_pixel(
         p1: g,
         p2: b,
     };
-    packing::pack_pixel(one_pixel::forward_pixel(s, p))
+    packing::pack_pixel(pixels::forward_pixel(s, p))
 }
 
 #[no_mangle]
@@ -101,7 +101,7 @@ pub extern "C" fn corkplover_reverse_pixel(
         p1: cb,
         p2: cr,
     };
-    packing::pack_pixel(one_pixel::reverse_pixel(s, p))
+    packing::pack_pixel(pixels::reverse_pixel(s, p))
 }
 
 #[no_mangle]
@@ -129,7 +129,7 @@ pub extern "C" fn corkplover_meter_y(
         rgbfull,
         yccfull,
     );
-    let answer = spot::meter_sample(SampleKind::Y, s, v);
+    let answer = meters::meter_sample(SampleKind::Y, s, v);
     *level = packing::level_in(answer);
     packing::pack_reading(answer)
 }
@@ -159,7 +159,7 @@ pub extern "C" fn corkplover_meter_cb(
         rgbfull,
         yccfull,
     );
-    let answer = spot::meter_sample(SampleKind::Cb, s, v);
+    let answer = meters::meter_sample(SampleKind::Cb, s, v);
     *level = packing::level_in(answer);
     packing::pack_reading(answer)
 }
@@ -189,7 +189,7 @@ pub extern "C" fn corkplover_meter_cr(
         rgbfull,
         yccfull,
     );
-    let answer = spot::meter_sample(SampleKind::Cr, s, v);
+    let answer = meters::meter_sample(SampleKind::Cr, s, v);
     *level = packing::level_in(answer);
     packing::pack_reading(answer)
 }
@@ -228,7 +228,7 @@ pub extern "C" fn corkplover_meter_pixel(
         p1: cb,
         p2: cr,
     };
-    let answer = spot::meter_pixel(s, p);
+    let answer = meters::meter_pixel(s, p);
     let levels = packing::levels_in(answer);
     *ylevel = levels.y;
     *cblevel = levels.cb;

@@ -3,7 +3,7 @@ ghost use mathlib.Core.Path.{_≡_};
 ghost use lib.ListN.{length};
 ghost use Rattle.pixel.specs.declared.Way.the-variants.{Forward, Reverse};
 ghost use Rattle.frame.specs.Frame.{sourceOf, outputOf};
-ghost use Rattle.image.specs.Image.{imageAnswer};
+ghost use Rattle.image_check.specs.Image.{imageAnswer};
 ghost use Rattle.picture.specs.Picture.{picture};
 ghost use Rattle.corkplover.specs.Packing.{setting, sizes, packedImage};
 ghost use Rattle.corkplover.specs.Left.{FrameExportLeft};
@@ -117,5 +117,5 @@ pub extern "C" fn corkplover_image_check(
         rgbfull,
         yccfull,
     );
-    packing::pack_image(frames::check_image(s, width, height, stride, y, cb, cr))
+    packing::pack_image(frames::image_check(s, width, height, stride, y, cb, cr))
 }

@@ -3,11 +3,11 @@ ghost use mathlib.Core.Path.{_≡_};
 ghost use lib.ListN.{length};
 ghost use Rattle.pixel.specs.declared.Way.the-variants.{Forward, Reverse};
 ghost use Rattle.frame.specs.Frame.{sourceOf, outputOf, FrameLeft};
-ghost use Rattle.image.specs.Image.{imageAnswer};
+ghost use Rattle.image_check.specs.Image.{imageAnswer};
 ghost use Rattle.picture.specs.Picture.{picture};
 use frame::FrameAnswer;
 use frame::Size;
-use image::ImageAnswer;
+use image_check::ImageAnswer;
 use pixel::Way;
 use setting::Setting;
 
@@ -45,7 +45,7 @@ pub fn reverse_frame(
 
 // Whether a picture of Y, Cb, Cr comes from some RGB picture within depth, or else the first pixel that does not. Refusals 1 to 7, 11,
 // then 8, 9 and 10 on that one side.
-pub fn check_image(
+pub fn image_check(
     s: Setting,
     width: usize,
     height: usize,
@@ -56,5 +56,5 @@ pub fn check_image(
 ) -> ImageAnswer
     ensures { λ x. ⌜ x ≡ imageAnswer s (picture width height stride (now (y .entry)) (now (cb .entry)) (now (cr .entry))) ⌝ }
 {
-    image::check_image(s, width, height, stride, y, cb, cr)
+    image_check::image_check(s, width, height, stride, y, cb, cr)
 }

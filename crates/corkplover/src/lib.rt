@@ -4,6 +4,6 @@ pub mod exports;
 pub mod frame_exports;
 pub mod frames;
 pub mod labels;
-pub mod one_pixel;
+pub mod meters;
 mod packing;
-pub mod spot;
+pub mod pixels;

@@ -2,12 +2,12 @@
 ghost use mathlib.Core.Path.{_≡_};
 ghost use Rattle.setting.specs.Label.{labelNumber};
 ghost use Rattle.corkplover.specs.Packing.{packed, packedRefusal, packedPixel, packedReading, packedLevels, levelIn, levelsIn, packedFrame, packedImage, setting, sizes};
-use crate::one_pixel::PixelAnswer;
-use crate::spot::LevelsAnswer;
-use crate::spot::Reading;
+use crate::meters::LevelsAnswer;
+use crate::meters::Reading;
+use crate::pixels::PixelAnswer;
 use frame::FrameAnswer;
 use frame::Size;
-use image::ImageAnswer;
+use image_check::ImageAnswer;
 use meter::Levels;
 use refusal::Refusal;
 use setting::Setting;

@@ -5,10 +5,10 @@ use Rattle.sample.specs.declared.Pixel.{Pixel}
 use Rattle.setting.specs.declared.Setting.{Setting}
 use Rattle.meter.specs.declared.SampleKind.{SampleKind}
 use Rattle.corkplover.specs.Answers.{reading, levelsAnswer}
-use Rattle.corkplover.specs.declared.spot.Reading.{Reading}
-use Rattle.corkplover.specs.declared.spot.Reading.the-variants as meter
-use Rattle.corkplover.specs.declared.spot.LevelsAnswer.{LevelsAnswer}
-use Rattle.corkplover.specs.declared.spot.LevelsAnswer.the-variants as levels
+use Rattle.corkplover.specs.declared.meters.Reading.{Reading}
+use Rattle.corkplover.specs.declared.meters.Reading.the-variants as meter
+use Rattle.corkplover.specs.declared.meters.LevelsAnswer.{LevelsAnswer}
+use Rattle.corkplover.specs.declared.meters.LevelsAnswer.the-variants as levels
 use Rattle.corkplover.proofs.LevelLaws.{reading-is-number, levels-are-numbers}
 use Rattle.desk.specs.Answers.{NumberIn, NumbersIn}
 

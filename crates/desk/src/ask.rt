@@ -5,12 +5,12 @@ ghost use Rattle.desk.specs.Answers.{NumberIn, NumbersIn, ofPixel, ofSou
 use crate::CodeKind;
 use crate::Request;
 use corkplover::labels;
-use corkplover::one_pixel;
-use corkplover::one_pixel::PixelAnswer;
-use corkplover::one_pixel::SourceAnswer;
-use corkplover::spot;
-use corkplover::spot::LevelsAnswer;
-use corkplover::spot::Reading;
+use corkplover::meters;
+use corkplover::meters::LevelsAnswer;
+use corkplover::meters::Reading;
+use corkplover::pixels;
+use corkplover::pixels::PixelAnswer;
+use corkplover::pixels::SourceAnswer;
 use meter::SampleKind;
 use refusal::Refusal;
 use sample::Pixel;
@@ -74,17 +74,17 @@ fn ask_pixel(call: Call, s: Setting, p: Pixel) -> Answer
     ensures { λ r. ⌜ r ≡ askPixel call s p ⌝ }
 {
     match call {
-        Call::Forward => of_pixel(one_pixel::forward_pixel(s, p)),
-        Call::Reverse => of_pixel(one_pixel::reverse_pixel(s, p)),
-        Call::Meter => of_levels(spot::meter_pixel(s, p)),
-        Call::ImageCheck => of_source(one_pixel::source_pixel(s, p)),
+        Call::Forward => of_pixel(pixels::forward_pixel(s, p)),
+        Call::Reverse => of_pixel(pixels::reverse_pixel(s, p)),
+        Call::Meter => of_levels(meters::meter_pixel(s, p)),
+        Call::ImageCheck => of_source(pixels::source_pixel(s, p)),
     }
 }
 
 fn ask_sample(kind: SampleKind, s: Setting, v: u16) -> Answer
     ensures { λ r. ⌜ r ≡ ofReading (reading kind s v) ⌝ }
 {
-    of_reading(spot::meter_sample(kind, s, v))
+    of_reading(meters::meter_sample(kind, s, v))
 }
 
 fn label_of(kind: CodeKind, code: u8) -> Label

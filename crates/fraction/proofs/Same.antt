@@ -4,9 +4,9 @@ use Prim.Native.Nat.{ℕ, suc, _+_, _*_, _/_, _<_}
 use native.Mathlib.Nat.{mul-pos, mul-comm, mul-assoc, mul-left-comm, mul-add, add-mul, one-mul, mul-one, mul-zero, zero-mul, mul-div-mul-right, eq-of-mul-eq-mul-right}
 use native.Mathlib.Omega.{arith}
 use lib.IntN.{ℤ, pos, negsuc, negℤ, _*ℤ_}
-use Rattle.whole.specs.Whole.{round}
-use Rattle.whole.proofs.Difference.{Parts, parts, parts-of}
-use Rattle.whole.proofs.Closers.{same, apart, round-down}
+use Rattle.rounding.specs.Rounding.{round}
+use Rattle.rounding.proofs.Difference.{Parts, parts, parts-of}
+use Rattle.rounding.proofs.Closers.{same, apart, round-down}
 use Rattle.fraction.specs.Fraction.{Frac, _≈_, Round}
 
 -- sums of products in one order, so that `omega` meets each product once

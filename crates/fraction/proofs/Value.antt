@@ -5,8 +5,8 @@ use Prim.Native.Nat.{ℕ, _+_, _*_, _<_}
 use native.Mathlib.Nat.{mul-pos, mul-add, add-mul, eq-of-mul-eq-mul-left}
 use native.Mathlib.Omega.{arith}
 use lib.IntN.{ℤ, pos, natAbs, _+ℤ_, _-ℤ_, _*ℤ_}
-use Rattle.whole.specs.Whole.{round}
-use Rattle.whole.proofs.Difference.{parts, parts-of, parts-scale, parts-times}
+use Rattle.rounding.specs.Rounding.{round}
+use Rattle.rounding.proofs.Difference.{parts, parts-of, parts-scale, parts-times}
 use Rattle.fraction.specs.Fraction.{Frac, _⊕_, _⊖_, _⊗_, _÷_, part, _≈_, SameValue, Round}
 use Rattle.fraction.proofs.Same.{ring, Round-≈, to-parts, by-parts, ≈-refl, ≈-sym, ≈-trans}
 

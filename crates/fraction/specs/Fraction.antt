@@ -2,7 +2,7 @@
 use mathlib.Core.Path.{_≡_}
 use Prim.Native.Nat.{ℕ, _*_, _<_}
 use lib.IntN.{ℤ, pos, natAbs, _+ℤ_, _-ℤ_, _*ℤ_}
-use Rattle.whole.specs.Whole.{round}
+use Rattle.rounding.specs.Rounding.{round}
 
 pub record Frac : Type 0 where
   pub num : ℤ

@@ -5,8 +5,8 @@ use Rattle.refusal.specs.declared.Refusal.{Refusal}
 use Rattle.setting.specs.declared.Setting.{Setting}
 use Rattle.setting.specs.declared.verdict.Served.{Served}
 use Rattle.setting.specs.declared.verdict.Verdict.the-variants as verdict
-use Rattle.plane.specs.Plane.{zeros}
-use Rattle.plane.specs.declared.size.Side.{Side}
+use Rattle.planes.specs.Plane.{zeros}
+use Rattle.planes.specs.declared.size.Side.{Side}
 use Rattle.pixel.specs.declared.Way.{Way}
 use Rattle.picture.specs.Picture.{Picture}
 use Rattle.frame.specs.Frame.{frameVerdict, frameAnswer, convertedPlane, lengthOf, outPlane}

@@ -7,10 +7,10 @@ use native.Mathlib.Omega.{arith}
 use lib.ListN.{length}
 use Rattle.sample.specs.declared.Pixel.{Pixel}
 use Rattle.setting.specs.declared.verdict.Served.{Served}
-use Rattle.plane.specs.Plane.{patched, cleared}
-use Rattle.plane.specs.Sizes.{Long, RowStart, ServedSide}
-use Rattle.plane.specs.declared.size.Side.{Side}
-use Rattle.plane.proofs.Painted.{part-width, part-sample, Progress, progress-none, progress-more, Painted, painted-none, painted-more, painted-end}
+use Rattle.planes.specs.Plane.{patched, cleared}
+use Rattle.planes.specs.Sizes.{Long, RowStart, ServedSide}
+use Rattle.planes.specs.declared.size.Side.{Side}
+use Rattle.planes.proofs.Painted.{part-width, part-sample, Progress, progress-none, progress-more, Painted, painted-none, painted-more, painted-end}
 use Rattle.pixel.specs.Pixel.{convert}
 use Rattle.pixel.specs.declared.Way.{Way}
 use Rattle.picture.specs.Picture.{Picture, sideOfPicture, pixelOf, EveryPixel}

@@ -8,9 +8,9 @@ use Rattle.setting.specs.declared.Setting.{Setting}
 use Rattle.setting.specs.declared.verdict.Served.{Served}
 use Rattle.setting.specs.declared.verdict.Verdict.{Verdict}
 use Rattle.setting.specs.declared.verdict.Verdict.the-variants as verdict
-use Rattle.plane.specs.Plane.{zeros, planeOf}
-use Rattle.plane.specs.Sizes.{sideOf}
-use Rattle.plane.specs.declared.size.Side.{Side}
+use Rattle.planes.specs.Plane.{zeros, planeOf}
+use Rattle.planes.specs.Sizes.{sideOf}
+use Rattle.planes.specs.declared.size.Side.{Side}
 use Rattle.pixel.specs.Pixel.{callOf, convert}
 use Rattle.pixel.specs.declared.Way.{Way}
 use Rattle.picture.specs.Picture.{Picture, picture, pixelOf}

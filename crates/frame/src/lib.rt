@@ -5,7 +5,7 @@ ghost use mathlib.Core.Path.{_≡_};
 ghost use lib.ListN.{length};
 ghost use Rattle.frame.specs.Frame.{sourceOf, outputOf, FrameLeft};
 use pixel::Way;
-use plane::size::Side;
+use planes::size::Side;
 use refusal::Refusal;
 use setting::Setting;
 use setting::verdict::Verdict;
@@ -64,7 +64,7 @@ pub fn convert_frame(
             FrameAnswer::Done
         }
         Verdict::Refused(refusal) => {
-            plane::fill::zero_three(b0, b1, b2);
+            planes::fill::zero_three(b0, b1, b2);
             FrameAnswer::Refused(refusal)
         }
     }

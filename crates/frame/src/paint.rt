@@ -2,8 +2,8 @@
 ghost use mathlib.Core.Path.{_≡_};
 ghost use Prim.Native.Nat.{_+_};
 ghost use lib.ListN.{length};
-ghost use Rattle.plane.specs.Plane.{patched};
-ghost use Rattle.plane.specs.Sizes.{Long, ServedSide};
+ghost use Rattle.planes.specs.Plane.{patched};
+ghost use Rattle.planes.specs.Sizes.{Long, ServedSide};
 ghost use Rattle.pixel.specs.Pixel.{convert, preparedFor, InsideSource};
 ghost use Rattle.pixel.specs.Ready.{Ready};
 ghost use Rattle.picture.specs.Picture.{sideOfPicture, EveryPixel};
@@ -12,7 +12,7 @@ ghost use Rattle.frame.specs.Frame.{sourceOf, outputOf, rowPart, convert
 use crate::Size;
 use pixel::Prepared;
 use pixel::Way;
-use plane::size::row_start;
+use planes::size::row_start;
 use setting::verdict::Served;
 
 // One row, from index `from` of the planes that are read to index `to` of those that are written.
@@ -83,9 +83,9 @@ pub fn paint(
     for j in 0..height {
         let from = row_start(j, source_stride, height);
         let to = row_start(j, output_stride, height);
-        plane::fill::zero_gap(b0, b1, b2, done, to);
+        planes::fill::zero_gap(b0, b1, b2, done, to);
         paint_row(way, s, prepared, width, from, to, a0, a1, a2, b0, b1, b2);
         done = to + width;
     }
-    plane::fill::zero_rest(b0, b1, b2, done);
+    planes::fill::zero_rest(b0, b1, b2, done);
 }

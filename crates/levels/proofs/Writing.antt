@@ -5,9 +5,9 @@ use Prim.Native.Nat.{ℕ, _+_, _*_, _<_}
 use native.Mathlib.Nat.{one-mul, mul-comm}
 use native.Mathlib.Omega.{arith}
 use lib.IntN.{ℤ, pos, _+ℤ_, _-ℤ_, _*ℤ_, +ℤ-idr}
-use Rattle.whole.specs.Whole.{round, clip}
-use Rattle.whole.proofs.Difference.{parts, parts-of}
-use Rattle.whole.proofs.Closers.{same}
+use Rattle.rounding.specs.Rounding.{round, clip}
+use Rattle.rounding.proofs.Difference.{parts, parts-of}
+use Rattle.rounding.proofs.Closers.{same}
 use Rattle.fraction.specs.Fraction.{Frac, _⊕_, _⊗_, whole, Round}
 use Rattle.fraction.proofs.Same.{ring, by-parts}
 use Rattle.fraction.proofs.Value.{Value, ⊕-value, ⊗-value, lift, rename, Round-value, itself}

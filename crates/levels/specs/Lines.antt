@@ -2,7 +2,7 @@
 use mathlib.Core.Bool.{Bool, true, false}
 use Prim.Native.Nat.{ℕ, _+_, _*_}
 use lib.IntN.{ℤ, pos, _+ℤ_, _-ℤ_, _*ℤ_}
-use Rattle.whole.specs.Whole.{round, clip}
+use Rattle.rounding.specs.Rounding.{round, clip}
 use Rattle.sample.specs.declared.Pixel.{Pixel}
 use Rattle.sample.specs.Depth.{M}
 use Rattle.levels.specs.Luma.{rgbOf, lumaOf, chromaOf}

@@ -2,7 +2,7 @@
 use mathlib.Core.Bool.{Bool, true, false}
 use Prim.Native.Nat.{ℕ, _*_, _-_, _^_}
 use lib.IntN.{pos, _+ℤ_, _-ℤ_}
-use Rattle.whole.specs.Whole.{Clip}
+use Rattle.rounding.specs.Rounding.{Clip}
 use Rattle.fraction.specs.Fraction.{Frac, _⊕_, _⊖_, _⊗_, _÷_, part, whole, SameValue, Round}
 use Rattle.sample.specs.Depth.{M, H}
 use Rattle.sample.specs.declared.RgbDepth.{RgbDepth}

@@ -1,8 +1,8 @@
 -- What the code has room for in 64 bits. Round works with twice a numerator and once a denominator.
 use mathlib.Core.Path.{_≡_}
 use Prim.Native.Nat.{ℕ, _+_, _*_, _≤_, _<_}
-use Rattle.whole.specs.Quotient.{Divides}
-use Rattle.whole.specs.declared.quotient.Divisor.{Divisor}
+use Rattle.rounding.specs.Quotient.{Divides}
+use Rattle.rounding.specs.declared.quotient.Divisor.{Divisor}
 use Rattle.levels.specs.Luma.{mostSample}
 use Rattle.levels.specs.declared.Scale.{Scale}
 use Rattle.levels.specs.declared.Line.{Line}

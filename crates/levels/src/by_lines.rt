@@ -1,8 +1,8 @@
 // A pixel by the prepared lines of its setting: three sums, and no division.
 use crate::Line;
 use crate::Lines;
+use rounding::quotient::Divisor;
 use sample::Pixel;
-use whole::quotient::Divisor;
 ghost use mathlib.Core.Path.{_≡_};
 ghost use Rattle.levels.specs.Luma.{SamplesServed};
 ghost use Rattle.levels.specs.Lines.{lineSample, linesPixel};
@@ -15,7 +15,7 @@ pub fn divisor_of(l: Line) -> Divisor
 {
     let row = l.row;
     let den = row.over;
-    whole::quotient::divisor_of(2 * den)
+    rounding::quotient::divisor_of(2 * den)
 }
 
 // One sample by its line. All six kinds of sample come from here.
@@ -42,7 +42,7 @@ pub fn sample_by(l: Line, by: Divisor, p: Pixel) -> u16
     let z = p.p2 as u64;
     let plus = u0 * x + u1 * y + u2 * z + up;
     let minus = d0 * x + d1 * y + d2 * z + down;
-    whole::round_clip_by(plus, minus, den, by, mid, top)
+    rounding::round_clip_by(plus, minus, den, by, mid, top)
 }
 
 // One sample of one pixel alone.

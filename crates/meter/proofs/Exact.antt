@@ -11,7 +11,7 @@ use lib.Ieee.Exact.{HasValue}
 use lib.Ieee.Fits.{up-pos, down-pos}
 use lib.Ieee.Back.{round-whole}
 use lib.Ieee.Scale.{round-same}
-use Rattle.whole.proofs.Difference.{Holds, subtracted}
+use Rattle.rounding.proofs.Difference.{Holds, subtracted}
 use Rattle.levels.specs.declared.Scale.{Scale}
 use Rattle.meter.specs.Level.{floatQuotient, IsExactly, nearestTo, IsNumber, Measurable}
 

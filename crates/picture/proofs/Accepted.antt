@@ -15,12 +15,12 @@ use Rattle.setting.specs.declared.Call.{Call}
 use Rattle.setting.specs.declared.Setting.{Setting}
 use Rattle.setting.specs.declared.verdict.Served.{Served}
 use Rattle.setting.specs.declared.verdict.Verdict.the-variants as verdict
-use Rattle.plane.specs.First.{badSample, AllFine}
-use Rattle.plane.specs.Sizes.{sizeRefusal, EverySide, ServedSide}
-use Rattle.plane.specs.declared.search.Found.the-variants.{Nothing}
-use Rattle.plane.specs.declared.size.Side.{Side}
-use Rattle.plane.proofs.SizeTheorems as sizes
-use Rattle.plane.proofs.SearchTheorems.{nothing-in-planes-means}
+use Rattle.planes.specs.First.{badSample, AllFine}
+use Rattle.planes.specs.Sizes.{sizeRefusal, EverySide, ServedSide}
+use Rattle.planes.specs.declared.search.Found.the-variants.{Nothing}
+use Rattle.planes.specs.declared.size.Side.{Side}
+use Rattle.planes.proofs.SizeTheorems as sizes
+use Rattle.planes.proofs.SearchTheorems.{nothing-in-planes-means}
 use Rattle.pixel.specs.Pixel.{InsideSource}
 use Rattle.pixel.specs.Ready.{Ready}
 use Rattle.pixel.specs.declared.Way.{Way}

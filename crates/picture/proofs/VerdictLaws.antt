@@ -14,11 +14,11 @@ use Rattle.setting.specs.declared.Setting.{Setting}
 use Rattle.setting.specs.declared.verdict.Served.{Served}
 use Rattle.setting.specs.declared.verdict.Verdict.{Verdict}
 use Rattle.setting.specs.declared.verdict.Verdict.the-variants as verdict
-use Rattle.plane.specs.Sizes.{sizeRefusal}
-use Rattle.plane.specs.declared.search.Found.{Found}
-use Rattle.plane.specs.declared.search.Found.the-variants as found
-use Rattle.plane.specs.declared.size.Side.{Side}
-use Rattle.plane.proofs.SizeLaws.{twice}
+use Rattle.planes.specs.Sizes.{sizeRefusal}
+use Rattle.planes.specs.declared.search.Found.{Found}
+use Rattle.planes.specs.declared.search.Found.the-variants as found
+use Rattle.planes.specs.declared.size.Side.{Side}
+use Rattle.planes.proofs.SizeLaws.{twice}
 use Rattle.pixel.specs.Ready.{Ready}
 use Rattle.pixel.specs.declared.Way.{Way}
 use Rattle.pixel.proofs.ReadyLaws.{ready}

@@ -3,9 +3,9 @@ use mathlib.Core.List.{List, [], _∷_}
 use Prim.Native.Nat.{ℕ, _<_}
 use lib.ListN.{length}
 use Rattle.sample.specs.declared.Pixel.{Pixel}
-use Rattle.plane.specs.Plane.{pixelAt}
-use Rattle.plane.specs.Sizes.{sideOf}
-use Rattle.plane.specs.declared.size.Side.{Side}
+use Rattle.planes.specs.Plane.{pixelAt}
+use Rattle.planes.specs.Sizes.{sideOf}
+use Rattle.planes.specs.declared.size.Side.{Side}
 
 pub record Picture : Type 0 where
   pub width : ℕ

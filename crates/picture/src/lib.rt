@@ -1,14 +1,14 @@
 // Calls on pictures: the first refusal that applies, whatever is then done with the picture.
 ghost use mathlib.Core.Path.{_≡_};
 ghost use mathlib.Core.List.{[], _∷_};
-ghost use Rattle.plane.specs.Sizes.{Long, Sized, needed};
+ghost use Rattle.planes.specs.Sizes.{Long, Sized, needed};
 ghost use Rattle.sample.specs.Depth.{ThreeDepths};
 ghost use lib.ListN.{length};
 ghost use Rattle.picture.specs.Picture.{picture};
 ghost use Rattle.picture.specs.Verdict.{past, beyondDepth, pictureVerdict};
 use pixel::Way;
-use plane::search::Found;
-use plane::size::Side;
+use planes::search::Found;
+use planes::size::Side;
 use refusal::Refusal;
 use sample::Depths;
 use setting::Call;
@@ -45,7 +45,7 @@ fn beyond_depth(
     ensures { λ r. ⌜ r ≡ beyondDepth way d (picture width height stride (now (a0 .entry)) (now (a1 .entry)) (now (a2 .entry))) ⌝ }
 {
     let t = pixel::tops(way, d);
-    plane::search::first_bad_of_three(a0, a1, a2, stride, width, height, t.p0, t.p1, t.p2)
+    planes::search::first_bad_of_three(a0, a1, a2, stride, width, height, t.p0, t.p1, t.p2)
 }
 
 // The first row that applies to a call on a picture whose planes are read `way`, or the setting in checked kinds. `other` is the
@@ -74,7 +74,7 @@ pub fn judge(
         n1: a1.len(),
         n2: a2.len(),
     };
-    let number = plane::size::size_refusal_two(width, height, own, other);
+    let number = planes::size::size_refusal_two(width, height, own, other);
     if number != 0 {
         return Verdict::Refused(Refusal::plain(number));
     }

@@ -10,8 +10,8 @@ use Rattle.sample.specs.Depth.{M, Depth, mostDepth, InsideYCC}
 use Rattle.sample.specs.declared.Depths.{Depths}
 use Rattle.sample.specs.declared.Pixel.{Pixel}
 use Rattle.sample.proofs.DepthLaws.{powers}
-use Rattle.plane.specs.declared.search.Found.the-variants as found
-use Rattle.plane.proofs.SearchTheorems.{nothing-means}
+use Rattle.planes.specs.declared.search.Found.the-variants as found
+use Rattle.planes.proofs.SearchTheorems.{nothing-means}
 use Rattle.setting.specs.Refusals.{depths, served, judged, refusalOf}
 use Rattle.setting.specs.declared.Call.the-variants as call
 use Rattle.setting.specs.declared.Setting.{Setting}
@@ -27,9 +27,9 @@ use Rattle.pixel.proofs.ReadyLaws.{ready}
 use Rattle.picture.proofs.Accepted.{inside-exactly}
 use Rattle.corkplover.specs.Admit.{pixelPicture, topOf, badPixel, badOne, admitted, admittedOne}
 use Rattle.corkplover.specs.Answers.{pixelAnswer, reading, levelsAnswer}
-use Rattle.corkplover.specs.declared.spot.Reading.the-variants as meter
-use Rattle.corkplover.specs.declared.spot.LevelsAnswer.the-variants as levels
-use Rattle.corkplover.specs.declared.one_pixel.PixelAnswer.the-variants.{Converted}
+use Rattle.corkplover.specs.declared.meters.Reading.the-variants as meter
+use Rattle.corkplover.specs.declared.meters.LevelsAnswer.the-variants as levels
+use Rattle.corkplover.specs.declared.pixels.PixelAnswer.the-variants.{Converted}
 
 -- samples within depth are not bad
 pub no-bad : (w : Way) (d : Depths) (p : Pixel) → InsideSource w d p → badPixel w d p ≡ found.Nothing

@@ -6,12 +6,12 @@ use denote.Ref.{now}
 use Rattle.corkplover.proofs.labels.primaries_label.Reads as primaries-label
 use Rattle.corkplover.proofs.labels.transfer_label.Reads as transfer-label
 use Rattle.corkplover.proofs.labels.matrix_label.Reads as matrix-label
-use Rattle.corkplover.proofs.one_pixel.forward_pixel.Reads as forward-pixel
-use Rattle.corkplover.proofs.one_pixel.reverse_pixel.Reads as reverse-pixel
-use Rattle.corkplover.proofs.one_pixel.source_pixel.Reads as source-pixel
-use Rattle.corkplover.proofs.spot.meter_sample.Reads as meter-sample
-use Rattle.corkplover.proofs.spot.meter_pixel.Reads as meter-pixel
-use Rattle.corkplover.proofs.frames.check_image.Reads as check-image
+use Rattle.corkplover.proofs.pixels.forward_pixel.Reads as forward-pixel
+use Rattle.corkplover.proofs.pixels.reverse_pixel.Reads as reverse-pixel
+use Rattle.corkplover.proofs.pixels.source_pixel.Reads as source-pixel
+use Rattle.corkplover.proofs.meters.meter_sample.Reads as meter-sample
+use Rattle.corkplover.proofs.meters.meter_pixel.Reads as meter-pixel
+use Rattle.corkplover.proofs.frames.image_check.Reads as image-check
 use Rattle.corkplover.proofs.frames.forward_frame.Reads as forward-frame
 use Rattle.corkplover.proofs.frames.reverse_frame.Reads as reverse-frame
 use Rattle.promises.proofs.Once.{once, once-all}
@@ -64,11 +64,11 @@ meter-pixel-asks-nothing κs a = tt
 pub meter-pixel-once : (κs : _) (a : _) (r r' : _) (s s' : _) → meter-pixel.Post κs a r s → meter-pixel.Post κs a r' s' → r ≡ r'
 meter-pixel-once κs a r r' s s' = once
 
-pub check-image-asks-nothing : (κs : _) (a : _) → check-image.Pre κs a
-check-image-asks-nothing κs a = tt
+pub image-check-asks-nothing : (κs : _) (a : _) → image-check.Pre κs a
+image-check-asks-nothing κs a = tt
 
-pub check-image-once : (κs : _) (a : _) (r r' : _) (s s' : _) → check-image.Post κs a r s → check-image.Post κs a r' s' → r ≡ r'
-check-image-once κs a r r' s s' = once
+pub image-check-once : (κs : _) (a : _) (r r' : _) (s s' : _) → image-check.Post κs a r s → image-check.Post κs a r' s' → r ≡ r'
+image-check-once κs a r r' s s' = once
 
 pub forward-frame-asks-nothing : (κs : _) (a : _) → forward-frame.Pre κs a
 forward-frame-asks-nothing κs a = tt

@@ -8,11 +8,11 @@ use native.Mathlib.Omega.{arith}
 use Rattle.sample.specs.Depth.{InsideYCC}
 use Rattle.sample.specs.declared.Pixel.{Pixel}
 use Rattle.refusal.specs.Table.{row, first}
-use Rattle.plane.specs.Plane.{planeOf, sampleAt}
-use Rattle.plane.specs.Sizes.{sizeRefusal, ServedSide}
-use Rattle.plane.specs.declared.size.Side.{Side}
-use Rattle.plane.proofs.PlaneTheorems.{plane-same}
-use Rattle.plane.proofs.SizeTheorems.{refused-0}
+use Rattle.planes.specs.Plane.{planeOf, sampleAt}
+use Rattle.planes.specs.Sizes.{sizeRefusal, ServedSide}
+use Rattle.planes.specs.declared.size.Side.{Side}
+use Rattle.planes.proofs.PlaneTheorems.{plane-same}
+use Rattle.planes.proofs.SizeTheorems.{refused-0}
 use Rattle.setting.specs.Refusals.{depths, served, refusalOf}
 use Rattle.setting.specs.declared.Call.the-variants as call
 use Rattle.setting.specs.declared.Setting.{Setting}

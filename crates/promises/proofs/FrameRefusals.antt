@@ -8,12 +8,12 @@ use Rattle.refusal.specs.Table.{TableRow, row, first, orElse, Numbered}
 use Rattle.refusal.specs.declared.Place.{Place}
 use Rattle.refusal.specs.declared.Refusal.{Refusal}
 use Rattle.refusal.proofs.TableLaws.{first-append}
-use Rattle.plane.specs.First.{IsBadSample}
-use Rattle.plane.specs.Sizes.{sizeRows, sizeRefusal}
-use Rattle.plane.specs.declared.search.Found.{Found}
-use Rattle.plane.specs.declared.search.Found.the-variants as found
-use Rattle.plane.specs.declared.size.Side.{Side}
-use Rattle.plane.proofs.SearchTheorems.{at-in-planes-means}
+use Rattle.planes.specs.First.{IsBadSample}
+use Rattle.planes.specs.Sizes.{sizeRows, sizeRefusal}
+use Rattle.planes.specs.declared.search.Found.{Found}
+use Rattle.planes.specs.declared.search.Found.the-variants as found
+use Rattle.planes.specs.declared.size.Side.{Side}
+use Rattle.planes.proofs.SearchTheorems.{at-in-planes-means}
 use Rattle.setting.specs.Refusals.{depths, served, table, refusalOf}
 use Rattle.setting.specs.declared.Call.{Call}
 use Rattle.setting.specs.declared.Call.the-variants as call
@@ -28,8 +28,8 @@ use Rattle.picture.specs.Picture.{Picture, planes, sideOfPicture}
 use Rattle.picture.specs.Verdict.{beyondDepth, numberBefore10, pictureVerdict}
 use Rattle.frame.specs.Frame.{frameVerdict, frameAnswer}
 use Rattle.frame.specs.Frame as frame
-use Rattle.image.specs.Image.{firstSourceless, answerFound, imageAnswer}
-use Rattle.image.specs.Image as image
+use Rattle.image_check.specs.Image.{firstSourceless, answerFound, imageAnswer}
+use Rattle.image_check.specs.Image as image
 use Rattle.corkplover.specs.Said.{Said, saidRefusal, frameSaid, imageSaid}
 use Rattle.promises.specs.Tables.{isFound, pictureTable, frameTable, imageTable}
 use Rattle.promises.proofs.Refusals.{number, past-number, Exactly, exactly-first, whole-numbered}

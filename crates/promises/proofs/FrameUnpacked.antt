@@ -7,12 +7,12 @@ use lib.Dec.{eqb}
 use Rattle.refusal.specs.declared.Place.{Place}
 use Rattle.refusal.specs.declared.Refusal.{Refusal}
 use Rattle.refusal.proofs.TableLaws.{neither}
-use Rattle.plane.specs.Sizes.{sizeRows, sizeRefusal}
-use Rattle.plane.specs.declared.search.Found.{Found}
-use Rattle.plane.specs.declared.search.Found.the-variants as found
-use Rattle.plane.specs.declared.size.Side.{Side}
-use Rattle.plane.proofs.SearchTheorems.{at-in-planes-means}
-use Rattle.plane.proofs.SizeTheorems as sizes
+use Rattle.planes.specs.Sizes.{sizeRows, sizeRefusal}
+use Rattle.planes.specs.declared.search.Found.{Found}
+use Rattle.planes.specs.declared.search.Found.the-variants as found
+use Rattle.planes.specs.declared.size.Side.{Side}
+use Rattle.planes.proofs.SearchTheorems.{at-in-planes-means}
+use Rattle.planes.proofs.SizeTheorems as sizes
 use Rattle.setting.specs.Refusals.{depths, refusalOf, served}
 use Rattle.setting.specs.declared.Call.{Call}
 use Rattle.setting.specs.declared.Call.the-variants as call
@@ -27,9 +27,9 @@ use Rattle.picture.specs.Verdict.{beyondDepth, numberBefore10, pictureVerdict}
 use Rattle.picture.proofs.Accepted.{Accepted, sides-served}
 use Rattle.frame.specs.Frame.{frameAnswer}
 use Rattle.frame.specs.Frame as frame
-use Rattle.image.specs.Image.{firstSourceless, answerFound, imageAnswer}
-use Rattle.image.specs.Image as image
-use Rattle.image.specs.declared.ImageAnswer.the-variants.{NoSource}
+use Rattle.image_check.specs.Image.{firstSourceless, answerFound, imageAnswer}
+use Rattle.image_check.specs.Image as image
+use Rattle.image_check.specs.declared.ImageAnswer.the-variants.{NoSource}
 use Rattle.corkplover.specs.Said.{Said, saidRefusal, frameSaid, imageSaid}
 use Rattle.corkplover.specs.Packing.{packed, numberIn, secondIn, firstIn, middleIn, packedRefusal, packedFrame, packedImage}
 use Rattle.promises.proofs.Fields.{fields}

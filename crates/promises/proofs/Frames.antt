@@ -9,12 +9,12 @@ use native.Mathlib.Nat.{mul-le-mul-right}
 use native.Mathlib.Omega.{arith}
 use lib.ListN.{length, getD}
 use Rattle.refusal.specs.declared.Refusal.{Refusal}
-use Rattle.plane.specs.Plane.{sampleAt, SamePicture}
-use Rattle.plane.specs.Sizes.{needed, ServedSide}
-use Rattle.plane.specs.declared.size.Side.{Side}
-use Rattle.plane.proofs.Tables.{length-tab, tab-at}
-use Rattle.plane.proofs.PlaneTheorems.{plane-length, plane-inside, plane-outside, plane-same, pixel-same}
-use Rattle.plane.proofs.SearchTheorems.{bad-sample-same, first-place-same}
+use Rattle.planes.specs.Plane.{sampleAt, SamePicture}
+use Rattle.planes.specs.Sizes.{needed, ServedSide}
+use Rattle.planes.specs.declared.size.Side.{Side}
+use Rattle.planes.proofs.Tables.{length-tab, tab-at}
+use Rattle.planes.proofs.PlaneTheorems.{plane-length, plane-inside, plane-outside, plane-same, pixel-same}
+use Rattle.planes.proofs.SearchTheorems.{bad-sample-same, first-place-same}
 use Rattle.setting.specs.Refusals.{served}
 use Rattle.setting.specs.declared.Call.{Call}
 use Rattle.setting.specs.declared.Call.the-variants as call
@@ -32,8 +32,8 @@ use Rattle.row.specs.Row.{sampleOf}
 use Rattle.frame.specs.Frame.{frameVerdict, frameBy, frameAnswer, convertedPlane, planeBy, lengthOf, outPlane}
 use Rattle.frame.specs.declared.FrameAnswer.the-variants.{Done, Refused}
 use Rattle.frame.proofs.FrameLaws.{plane-done, plane-refused}
-use Rattle.image.specs.Image.{sourceless, firstSourceless, answerFound, imageAnswer}
-use Rattle.image.specs.Image as image
+use Rattle.image_check.specs.Image.{sourceless, firstSourceless, answerFound, imageAnswer}
+use Rattle.image_check.specs.Image as image
 
 -- ---- every element
 

@@ -13,13 +13,13 @@ use Rattle.sample.proofs.Picks.{must}
 use Rattle.refusal.specs.Table.{row, first, orElse}
 use Rattle.refusal.specs.declared.Place.{Place}
 use Rattle.refusal.proofs.TableLaws.{neither}
-use Rattle.plane.specs.First.{IsFirstPlace}
-use Rattle.plane.specs.Plane.{planeOf, sampleAt}
-use Rattle.plane.specs.Sizes.{needed, LongSide}
-use Rattle.plane.specs.declared.search.Found.{Found}
-use Rattle.plane.specs.declared.search.Found.the-variants as found
-use Rattle.plane.proofs.PlaneTheorems.{plane-length, plane-inside}
-use Rattle.plane.proofs.SearchTheorems.{no-place-means, first-place-means}
+use Rattle.planes.specs.First.{IsFirstPlace}
+use Rattle.planes.specs.Plane.{planeOf, sampleAt}
+use Rattle.planes.specs.Sizes.{needed, LongSide}
+use Rattle.planes.specs.declared.search.Found.{Found}
+use Rattle.planes.specs.declared.search.Found.the-variants as found
+use Rattle.planes.proofs.PlaneTheorems.{plane-length, plane-inside}
+use Rattle.planes.proofs.SearchTheorems.{no-place-means, first-place-means}
 use Rattle.setting.specs.Refusals.{depths, served, refusalOf}
 use Rattle.setting.specs.declared.Call.the-variants as call
 use Rattle.setting.specs.declared.Setting.{Setting}
@@ -33,8 +33,8 @@ use Rattle.picture.specs.Picture.{Picture, picture, pixelOf, sideOfPicture, Eve
 use Rattle.picture.specs.Verdict.{beyondDepth, numberBefore10, pictureVerdict}
 use Rattle.picture.proofs.Accepted.{Accepted, of-accepted, pixels-inside}
 use Rattle.row.specs.Row.{sampleOf}
-use Rattle.image.specs.Image.{sourceless, firstSourceless, answerFound, imageBy, imageAnswer}
-use Rattle.image.specs.declared.ImageAnswer.the-variants.{Yes, NoSource}
+use Rattle.image_check.specs.Image.{sourceless, firstSourceless, answerFound, imageBy, imageAnswer}
+use Rattle.image_check.specs.declared.ImageAnswer.the-variants.{Yes, NoSource}
 use Rattle.corkplover.specs.Said.{imageSaid}
 use Rattle.promises.specs.Tables.{isFound}
 use Rattle.promises.proofs.Refusals.{number, past-number}

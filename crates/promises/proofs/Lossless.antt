@@ -17,7 +17,7 @@ use Rattle.pixel.proofs.ReadyLaws.{ready, is-lossless}
 use Rattle.pixel.proofs.PixelTheorems.{trip, one-to-one, tested, has-source}
 use Rattle.corkplover.specs.Admit.{admitted}
 use Rattle.corkplover.specs.Answers.{sourceAnswer}
-use Rattle.corkplover.specs.declared.one_pixel.SourceAnswer.the-variants as source
+use Rattle.corkplover.specs.declared.pixels.SourceAnswer.the-variants as source
 use Rattle.promises.proofs.Accepted.{no-bad}
 
 -- which of the two was picked

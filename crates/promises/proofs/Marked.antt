@@ -3,11 +3,11 @@ use mathlib.Core.Path.{_≡_, refl}
 use mathlib.Core.Bool.{Bool, true, false}
 use mathlib.Core.List.{List, [], _∷_}
 use Prim.Native.Nat.{ℕ}
-use Rattle.whole.specs.Whole.{half, round, clip, sample}
+use Rattle.rounding.specs.Rounding.{half, round, clip, sample}
 use Rattle.sample.specs.Depth.{isDepth, areDepths, atMost}
 use Rattle.sample.specs.declared.Pixel.{Pixel}
 use Rattle.refusal.specs.Table.{first}
-use Rattle.plane.specs.First.{orFound, firstOf, placeIf, placeInRow, firstPlace, firstBad, badSample}
+use Rattle.planes.specs.First.{orFound, firstOf, placeIf, placeInRow, firstPlace, firstBad, badSample}
 use Rattle.ycgco.specs.YCgCo.{lossyForward, lossyReverse, losslessForward, losslessReverse}
 use Rattle.levels.specs.Luma.{lumaForward, lumaReverse}
 use Rattle.setting.specs.Label.{among, labelled}
@@ -19,8 +19,8 @@ use Rattle.pixel.specs.Pixel.{convert}
 use Rattle.pixel.specs.declared.Way.the-variants.{Forward, Reverse}
 use Rattle.corkplover.specs.Admit.{admitted}
 use Rattle.corkplover.specs.Answers.{pixelAnswer}
-use Rattle.corkplover.specs.declared.one_pixel.PixelAnswer.{PixelAnswer}
-use Rattle.corkplover.specs.declared.one_pixel.PixelAnswer.the-variants.{Converted}
+use Rattle.corkplover.specs.declared.pixels.PixelAnswer.{PixelAnswer}
+use Rattle.corkplover.specs.declared.pixels.PixelAnswer.the-variants.{Converted}
 
 -- a setting by its matrix, the depths of RGB, Y and C, and whether RGB and YCbCr are full; primaries and transfer are 1
 abbrev pub with : ℕ → ℕ → ℕ → ℕ → Bool → Bool → Setting

@@ -11,10 +11,10 @@ use Rattle.sample.specs.declared.Pixel.{Pixel}
 use Rattle.refusal.specs.Table.{TableRow, first, Without, plain, badAt, nowhere}
 use Rattle.refusal.specs.declared.Place.{Place}
 use Rattle.refusal.specs.declared.Refusal.{Refusal}
-use Rattle.plane.specs.First.{IsBadSample, IsFirstBad}
-use Rattle.plane.specs.declared.search.Found.{Found}
-use Rattle.plane.specs.declared.search.Found.the-variants as found
-use Rattle.plane.proofs.SearchTheorems.{at-in-planes-means, at-means}
+use Rattle.planes.specs.First.{IsBadSample, IsFirstBad}
+use Rattle.planes.specs.declared.search.Found.{Found}
+use Rattle.planes.specs.declared.search.Found.the-variants as found
+use Rattle.planes.proofs.SearchTheorems.{at-in-planes-means, at-means}
 use Rattle.setting.specs.Refusals.{depths, table, refusalOf, served, judged}
 use Rattle.setting.specs.declared.Call.{Call}
 use Rattle.setting.specs.declared.Call.the-variants as call

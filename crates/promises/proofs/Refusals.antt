@@ -9,8 +9,8 @@ use borrow.Author.Tests.{ne-eqb}
 use Rattle.sample.specs.declared.Pixel.{Pixel}
 use Rattle.refusal.specs.Table.{TableRow, row, first, orElse, FirstIs, NoRow, Numbered}
 use Rattle.refusal.proofs.TableLaws.{first-append, is-first, first-is, no-row, row-none}
-use Rattle.plane.specs.declared.search.Found.{Found}
-use Rattle.plane.specs.declared.search.Found.the-variants as found
+use Rattle.planes.specs.declared.search.Found.{Found}
+use Rattle.planes.specs.declared.search.Found.the-variants as found
 use Rattle.setting.specs.Refusals.{depths, served, table, refusalOf, judged, verdictOf}
 use Rattle.setting.specs.declared.Call.{Call}
 use Rattle.setting.specs.declared.Call.the-variants as call
@@ -27,7 +27,7 @@ use Rattle.picture.specs.Verdict.{past}
 use Rattle.corkplover.specs.Admit.{badPixel, badOne, admitted, admittedOne}
 use Rattle.corkplover.specs.Answers.{convertedBy, pixelAnswer, sourceBy, sourceAnswer, readBy, reading, levelsBy, levelsAnswer}
 use Rattle.corkplover.specs.Said.{pixelSaid, sourceSaid, readingSaid, levelsSaid}
-use Rattle.corkplover.specs.declared.one_pixel.SourceAnswer.the-variants as source
+use Rattle.corkplover.specs.declared.pixels.SourceAnswer.the-variants as source
 use Rattle.promises.specs.Tables.{isFound, thenBad, pixelTable, sampleTable}
 
 -- the number of a verdict: 0 for a setting that is served

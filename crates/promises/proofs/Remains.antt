@@ -5,8 +5,8 @@ use mathlib.Core.List.{List}
 use Prim.Native.Nat.{ℕ}
 use lib.ListN.{length}
 use Rattle.setting.specs.declared.Setting.{Setting}
-use Rattle.plane.specs.Sizes.{sideOf}
-use Rattle.plane.specs.declared.size.Side.{Side}
+use Rattle.planes.specs.Sizes.{sideOf}
+use Rattle.planes.specs.declared.size.Side.{Side}
 use Rattle.pixel.specs.declared.Way.{Way}
 use Rattle.picture.specs.Picture.{Picture}
 use Rattle.frame.specs.Frame.{FrameLeft}

@@ -12,9 +12,9 @@ use Rattle.sample.proofs.DepthLaws.{powers}
 use Rattle.refusal.specs.Table.{TableRow, first, plain, badAt}
 use Rattle.refusal.specs.declared.Place.{Place}
 use Rattle.refusal.specs.declared.Refusal.{Refusal}
-use Rattle.plane.specs.declared.search.Found.{Found}
-use Rattle.plane.specs.declared.search.Found.the-variants as found
-use Rattle.plane.proofs.SearchTheorems.{at-in-planes-means, at-means}
+use Rattle.planes.specs.declared.search.Found.{Found}
+use Rattle.planes.specs.declared.search.Found.the-variants as found
+use Rattle.planes.proofs.SearchTheorems.{at-in-planes-means, at-means}
 use Rattle.setting.specs.Refusals.{depths, table, refusalOf, served, judged}
 use Rattle.setting.specs.declared.Call.{Call}
 use Rattle.setting.specs.declared.Call.the-variants as call
@@ -33,7 +33,7 @@ use Rattle.pixel.proofs.PixelTheorems.{forward-inside, reverse-inside}
 use Rattle.picture.specs.Verdict.{pastServed, past}
 use Rattle.corkplover.specs.Admit.{topOf, badPixel, badOne, admitted, admittedOne}
 use Rattle.corkplover.specs.Answers.{convertedBy, pixelAnswer, readBy, reading, levelsBy, levelsAnswer}
-use Rattle.corkplover.specs.declared.one_pixel.PixelAnswer.the-variants.{Converted}
+use Rattle.corkplover.specs.declared.pixels.PixelAnswer.the-variants.{Converted}
 use Rattle.corkplover.specs.Said.{Said, saidRefusal, pixelSaid, readingSaid, levelsSaid}
 use Rattle.corkplover.specs.Packing.{packed, numberIn, secondIn, firstIn, middleIn, lastIn, packedRefusal, packedPixel, packedReading, packedLevels}
 use Rattle.promises.proofs.Accepted.{accepted}

@@ -5,15 +5,15 @@ use mathlib.Core.List.{List, [], _∷_}
 use Prim.Native.Nat.{ℕ}
 use native.Mathlib.Omega.{arith}
 use lib.ListN.{getD}
-use Rattle.whole.specs.Whole.{half, clip, sample}
+use Rattle.rounding.specs.Rounding.{half, clip, sample}
 use Rattle.sample.specs.Depth.{isDepth, areDepths, atMost}
 use Rattle.refusal.specs.Table.{first, at}
 use Rattle.refusal.specs.declared.Place.{Place}
 use Rattle.refusal.specs.declared.Refusal.{Refusal}
-use Rattle.plane.specs.First.{orFound, firstOf, placeIf, placeInRow, firstPlace, firstBad, badSample}
-use Rattle.plane.specs.Plane.{tab, cell, planeOf}
-use Rattle.plane.specs.Sizes.{sideOf, outside, someSide, pictureOutside, anyShort, sideShort, sizeRefusal}
-use Rattle.plane.specs.declared.size.Side.{Side}
+use Rattle.planes.specs.First.{orFound, firstOf, placeIf, placeInRow, firstPlace, firstBad, badSample}
+use Rattle.planes.specs.Plane.{tab, cell, planeOf}
+use Rattle.planes.specs.Sizes.{sideOf, outside, someSide, pictureOutside, anyShort, sideShort, sizeRefusal}
+use Rattle.planes.specs.declared.size.Side.{Side}
 use Rattle.ycgco.specs.YCgCo.{losslessForward, losslessReverse}
 use Rattle.setting.specs.Label.{among, labelled}
 use Rattle.setting.specs.Matrix.{matrixOf}
@@ -27,8 +27,8 @@ use Rattle.picture.specs.Picture.{Picture, picture}
 use Rattle.picture.specs.Verdict.{pictureVerdict}
 use Rattle.frame.specs.Frame.{frameAnswer, outPlane}
 use Rattle.frame.specs.declared.FrameAnswer.the-variants.{Done, Refused}
-use Rattle.image.specs.Image.{imageAnswer}
-use Rattle.image.specs.declared.ImageAnswer.the-variants.{Yes, NoSource}
+use Rattle.image_check.specs.Image.{imageAnswer}
+use Rattle.image_check.specs.declared.ImageAnswer.the-variants.{Yes, NoSource}
 use Rattle.promises.proofs.Marked.{with}
 
 -- lossless code 8 at 8 bits

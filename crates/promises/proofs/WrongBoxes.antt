@@ -11,12 +11,12 @@ use Rattle.setting.specs.Label.{among, labelled, labelNumber, primariesLabel, t
 use Rattle.setting.specs.Matrix.{matrixOf}
 use Rattle.pixel.specs.declared.Way.the-variants.{Forward, Reverse}
 use Rattle.corkplover.specs.Answers.{pixelAnswer, sourceAnswer}
-use Rattle.corkplover.specs.declared.one_pixel.SourceAnswer.the-variants as source
+use Rattle.corkplover.specs.declared.pixels.SourceAnswer.the-variants as source
 use Rattle.corkplover.specs.Admit.{admitted}
-use Rattle.whole.specs.Whole.{half, clip, sample}
+use Rattle.rounding.specs.Rounding.{half, clip, sample}
 use Rattle.sample.specs.Depth.{isDepth, areDepths, atMost}
 use Rattle.refusal.specs.Table.{first}
-use Rattle.plane.specs.First.{orFound, firstOf, placeIf, placeInRow, firstPlace, firstBad, badSample}
+use Rattle.planes.specs.First.{orFound, firstOf, placeIf, placeInRow, firstPlace, firstBad, badSample}
 use Rattle.ycgco.specs.YCgCo.{losslessForward, losslessReverse}
 use Rattle.setting.specs.Agreement.{depthsServed}
 use Rattle.setting.specs.Refusals.{refusalOf, judged}
@@ -24,8 +24,8 @@ use Rattle.setting.specs.declared.Call.the-variants as call
 use Rattle.setting.specs.declared.Setting.{Setting}
 use Rattle.pixel.specs.Pixel.{convert}
 use Rattle.pixel.specs.Source.{hasSource}
-use Rattle.corkplover.specs.declared.one_pixel.PixelAnswer.{PixelAnswer}
-use Rattle.corkplover.specs.declared.one_pixel.PixelAnswer.the-variants.{Converted, Refused}
+use Rattle.corkplover.specs.declared.pixels.PixelAnswer.{PixelAnswer}
+use Rattle.corkplover.specs.declared.pixels.PixelAnswer.the-variants.{Converted, Refused}
 use Rattle.promises.proofs.Marked.{with, pixel, is, marked}
 
 -- labels at codes on both sides of each end: no constant answer, and no end one off

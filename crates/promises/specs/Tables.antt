@@ -4,8 +4,8 @@ use mathlib.Core.List.{List, [], _∷_, _++_}
 use Prim.Native.Nat.{ℕ}
 use Rattle.sample.specs.declared.Pixel.{Pixel}
 use Rattle.refusal.specs.Table.{TableRow, row}
-use Rattle.plane.specs.declared.search.Found.{Found}
-use Rattle.plane.specs.declared.search.Found.the-variants.{At, Nothing}
+use Rattle.planes.specs.declared.search.Found.{Found}
+use Rattle.planes.specs.declared.search.Found.the-variants.{At, Nothing}
 use Rattle.setting.specs.Refusals.{depths, table}
 use Rattle.setting.specs.declared.Call.{Call}
 use Rattle.setting.specs.declared.Call.the-variants as call
@@ -14,8 +14,8 @@ use Rattle.meter.specs.declared.SampleKind.{SampleKind}
 use Rattle.pixel.specs.Pixel.{callOf}
 use Rattle.pixel.specs.declared.Way.{Way}
 use Rattle.pixel.specs.declared.Way.the-variants.{Reverse}
-use Rattle.plane.specs.Sizes.{sizeRows}
-use Rattle.plane.specs.declared.size.Side.{Side}
+use Rattle.planes.specs.Sizes.{sizeRows}
+use Rattle.planes.specs.declared.size.Side.{Side}
 use Rattle.picture.specs.Picture.{Picture, sideOfPicture}
 use Rattle.picture.specs.Verdict.{beyondDepth}
 use Rattle.corkplover.specs.Admit.{badPixel, badOne}

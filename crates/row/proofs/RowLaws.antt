@@ -12,8 +12,8 @@ use Rattle.levels.specs.Luma.{LumaServed}
 use Rattle.levels.specs.declared.LumaSetting.{LumaSetting}
 use Rattle.levels.proofs.Pixels.{forward-law, reverse-law}
 use Rattle.levels.proofs.Served.{forward-rooms, reverse-rooms}
-use Rattle.plane.specs.Plane.{tab}
-use Rattle.plane.proofs.Tables.{length-tab, tab-same, tab-at, Filled, filled-none, filled-more, filled-all}
+use Rattle.planes.specs.Plane.{tab}
+use Rattle.planes.proofs.Tables.{length-tab, tab-same, tab-at, Filled, filled-none, filled-more, filled-all}
 use Rattle.pixel.specs.Pixel.{luma, lines}
 use Rattle.pixel.specs.declared.Way.{Way}
 use Rattle.pixel.specs.declared.Way.the-variants.{Forward, Reverse}

@@ -4,7 +4,7 @@ use mathlib.Core.List.{List, [], _∷_}
 use Prim.Native.Nat.{ℕ, _<_}
 use lib.ListN.{length, getD}
 use Rattle.sample.specs.declared.Pixel.{Pixel}
-use Rattle.plane.specs.Plane.{tab}
+use Rattle.planes.specs.Plane.{tab}
 
 -- the pixel at index i
 abbrev pub pixelIn : List ℕ → List ℕ → List ℕ → ℕ → Pixel

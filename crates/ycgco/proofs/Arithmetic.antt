@@ -3,9 +3,9 @@ use mathlib.Core.Path.{_≡_}
 use Prim.Native.Nat.{ℕ, _+_, _-_, _*_, _/_, _≤_, _<_}
 use native.Mathlib.Omega.{arith}
 use lib.IntN.{ℤ, pos, _+ℤ_, _-ℤ_, _*ℤ_}
-use Rattle.whole.specs.Whole.{half, round, clip, sample}
-use Rattle.whole.proofs.Difference.{parts}
-use Rattle.whole.proofs.Closers.{same, is-sample, round-up, clip-within}
+use Rattle.rounding.specs.Rounding.{half, round, clip, sample}
+use Rattle.rounding.proofs.Difference.{parts}
+use Rattle.rounding.proofs.Closers.{same, is-sample, round-up, clip-within}
 
 -- lossless forward
 module _ (H r g b : ℕ) where

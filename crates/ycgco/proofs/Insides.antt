@@ -4,8 +4,8 @@ use Prim.Native.Nat.{ℕ, _+_, _-_, _*_, _/_, _^_, _≤_, _<_}
 use native.Mathlib.Omega.{arith}
 use lib.IntN.{ℤ, pos}
 use lib.Pow.{pow-pos, pow-mono}
-use Rattle.whole.specs.Whole.{Clip, sample}
-use Rattle.whole.proofs.Closers.{clip-most}
+use Rattle.rounding.specs.Rounding.{Clip, sample}
+use Rattle.rounding.proofs.Closers.{clip-most}
 use Rattle.sample.specs.Depth.{InsideRGB, InsideYCC}
 use Rattle.sample.specs.declared.Depths.{Depths}
 use Rattle.sample.specs.declared.Pixel.{Pixel}

@@ -5,9 +5,9 @@ use Prim.Native.Nat.{ℕ, _+_, _-_, _/_, _^_, _≤_}
 use native.Mathlib.Omega.{arith}
 use lib.IntN.{pos, _+ℤ_, _-ℤ_}
 use lib.Pow.{pow-mono}
-use Rattle.whole.specs.Whole.{half, clip}
-use Rattle.whole.proofs.Difference.{parts}
-use Rattle.whole.proofs.Closers.{is-pos, clip-within}
+use Rattle.rounding.specs.Rounding.{half, clip}
+use Rattle.rounding.proofs.Difference.{parts}
+use Rattle.rounding.proofs.Closers.{is-pos, clip-within}
 use Rattle.sample.specs.Depth.{InsideRGB, InsideYCC}
 use Rattle.sample.specs.declared.Depths.{Depths}
 use Rattle.sample.specs.declared.Pixel.{Pixel}

@@ -1,7 +1,7 @@
 -- YCgCo over the whole numbers. Equation numbers are those of H.273.
 use Prim.Native.Nat.{ℕ, _+_, _≤_}
 use lib.IntN.{ℤ, pos, _+ℤ_, _-ℤ_, _*ℤ_}
-use Rattle.whole.specs.Whole.{half, round, Clip, sample}
+use Rattle.rounding.specs.Rounding.{half, round, Clip, sample}
 use Rattle.sample.specs.Depth.{mostDepth, H}
 use Rattle.sample.specs.declared.Depths.{Depths}
 use Rattle.sample.specs.declared.Pixel.{Pixel}

@@ -16,9 +16,9 @@ pub fn lossy_forward(d: Depths, p: Pixel) -> Pixel
     let r = p.p0 as u64;
     let g = p.p1 as u64;
     let b = p.p2 as u64;
-    let p0 = whole::round_clip(2 * g + r + b, 0, 4, 0, 65535);
-    let p1 = whole::round_clip(2 * g, r + b, 4, h, top);
-    let p2 = whole::round_clip(r, b, 2, h, top);
+    let p0 = rounding::round_clip(2 * g + r + b, 0, 4, 0, 65535);
+    let p1 = rounding::round_clip(2 * g, r + b, 4, h, top);
+    let p2 = rounding::round_clip(r, b, 2, h, top);
     Pixel { p0, p1, p2 }
 }
 
@@ -34,9 +34,9 @@ pub fn lossy_reverse(d: Depths, p: Pixel) -> Pixel
     let y = p.p0 as u32;
     let cb = p.p1 as u32;
     let cr = p.p2 as u32;
-    let p0 = whole::clip_difference(y + cr, cb, top);
-    let p1 = whole::clip_difference(y + cb, h, top);
-    let p2 = whole::clip_difference(y + 2 * h, cb + cr, top);
+    let p0 = rounding::clip_difference(y + cr, cb, top);
+    let p1 = rounding::clip_difference(y + cb, h, top);
+    let p2 = rounding::clip_difference(y + 2 * h, cb + cr, top);
     Pixel { p0, p1, p2 }
 }
 
@@ -76,8 +76,8 @@ pub fn lossless_reverse(d: Depths, p: Pixel) -> Pixel
     let cr = p.p2 as u32;
     let half_cb = (cb + h) / 2;
     let half_cr = (cr + h) / 2;
-    let p1 = whole::clip_difference(y + cb, half_cb, top);
-    let p2 = whole::clip_difference(y + 2 * h, half_cb + half_cr, top);
-    let p0 = whole::clip_difference(p2 as u32 + cr, h, top);
+    let p1 = rounding::clip_difference(y + cb, half_cb, top);
+    let p2 = rounding::clip_difference(y + 2 * h, half_cb + half_cr, top);
+    let p0 = rounding::clip_difference(p2 as u32 + cr, h, top);
     Pixel { p0, p1, p2 }
 }

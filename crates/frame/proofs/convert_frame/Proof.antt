@@ -3,7 +3,7 @@ use mathlib.Core.Path.{_≡_, sym, ap, _∙_, subst}
 use mathlib.Core.List.{[], _∷_}
 use lib.ListN.{length}
 use Rattle.setting.specs.declared.verdict.Served.{Served}
-use Rattle.plane.specs.declared.size.Side.{Side}
+use Rattle.planes.specs.declared.size.Side.{Side}
 use Rattle.pixel.specs.Pixel.{callOf, InsideSource}
 use Rattle.pixel.specs.Ready.{Ready}
 use Rattle.picture.specs.Picture.{Picture, EveryPixel}
@@ -28,15 +28,6 @@ judged c =
     let s = c .before .before .before .before .before .before .before .before in
     c .judge .ensures ∙ ap (λ call. pictureVerdict call (s .args .way) (s .args .s) (source s) (output s ∷ [])) (c .before .call-of .ensures)
 
-call-of-requires : tie.Need-call-of-requires
-call-of-requires c κs = search needs
-
-judge-requires : tie.Need-judge-requires
-judge-requires c κs = search needs
-
-enum-known-served : tie.Need-enum-known-served
-enum-known-served c = search needs
-
 paint-requires : tie.Need-paint-requires
 paint-requires c κs =
     let s = c .before .before .before .before .before .before .before .before .before .before .before .before .before .before in
@@ -47,21 +38,6 @@ paint-requires c κs =
       (sides .0, (sides .1 .0, subst (λ (y : Served). EveryPixel (InsideSource (s .args .way) (y .depths)) (source s)) (k .1) (pixels-inside _ _ _ _ _ (k .0)))),
     )
 
-enum-known-refusal : tie.Need-enum-known-refusal
-enum-known-refusal c = search needs
-
-zero-three-requires : tie.Need-zero-three-requires
-zero-three-requires c κs = search needs
-
-same-length : tie.Need-same-length
-same-length c = search needs
-
-same-length-2 : tie.Need-same-length-2
-same-length-2 c = search needs
-
-same-length-3 : tie.Need-same-length-3
-same-length-3 c = search needs
-
 returns : tie.Need-returns
 returns c =
     let s = c .before .before .before .before .before .before .before .before .before .before .before .before .before .before .before .before .before .before .before .before .before in
@@ -69,15 +45,6 @@ returns c =
     let at = plane-done (s .args .way) (s .args .s) (source s) (output s) _ v in
     let e = c .before .before .before .before .before .before .paint .ensures in
     (sym (done _ _ _ _ _ v), (e .0 ∙ sym (at 0), (e .1 .0 ∙ sym (at 1), e .1 .1 ∙ sym (at 2))))
-
-same-length-4 : tie.Need-same-length-4
-same-length-4 c = search needs
-
-same-length-5 : tie.Need-same-length-5
-same-length-5 c = search needs
-
-same-length-6 : tie.Need-same-length-6
-same-length-6 c = search needs
 
 returns-2 : tie.Need-returns-2
 returns-2 c =
@@ -91,17 +58,17 @@ pub convert-frame-spec : {M : Type 1} → statement M
 convert-frame-spec =
     tie.close
     (tie.spec
-    call-of-requires
-    judge-requires
-    enum-known-served
+    (λ c κs. search needs)
+    (λ c κs. search needs)
+    (λ c. search needs)
     paint-requires
-    enum-known-refusal
-    zero-three-requires
-    same-length
-    same-length-2
-    same-length-3
+    (λ c. search needs)
+    (λ c κs. search needs)
+    (λ c. search needs)
+    (λ c. search needs)
+    (λ c. search needs)
     returns
-    same-length-4
-    same-length-5
-    same-length-6
+    (λ c. search needs)
+    (λ c. search needs)
+    (λ c. search needs)
     returns-2)

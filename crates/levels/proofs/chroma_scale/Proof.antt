@@ -3,41 +3,11 @@ use borrow.Author.Needs.{needs}
 use Rattle.levels.proofs.chroma_scale.Statement.{statement}
 use Rattle.levels.proofs.chroma_scale.Tie as tie
 
-largest-requires : tie.Need-largest-requires
-largest-requires c κs = search needs
-
-cast-times : tie.Need-cast-times
-cast-times c = search needs
-
-sub-power : tie.Need-sub-power
-sub-power c = search needs
-
-power-requires : tie.Need-power-requires
-power-requires c κs = search needs
-
-cast-plus : tie.Need-cast-plus
-cast-plus c = search needs
-
 returns : tie.Need-returns
 returns c = rw (c .before .before .if1 .taken, c .before .largest .ensures, c .power .ensures .is)
-
-sub-power-2 : tie.Need-sub-power-2
-sub-power-2 c = search needs
-
-power-requires-2 : tie.Need-power-requires-2
-power-requires-2 c κs = search needs
-
-cast-step : tie.Need-cast-step
-cast-step c = search needs
-
-mul-times : tie.Need-mul-times
-mul-times c = search needs
-
-mul-plus : tie.Need-mul-plus
-mul-plus c = search needs
 
 returns-2 : tie.Need-returns-2
 returns-2 c = rw (c .before .if1 .left, c .power2 .ensures .is)
 
 pub chroma-scale-spec : {M : Type 1} → statement M
-chroma-scale-spec = tie.close (tie.spec largest-requires cast-times sub-power power-requires cast-plus returns sub-power-2 power-requires-2 cast-step mul-times mul-plus returns-2)
+chroma-scale-spec = tie.close (tie.spec (λ c κs. search needs) (λ c. search needs) (λ c. search needs) (λ c κs. search needs) (λ c. search needs) returns (λ c. search needs) (λ c κs. search needs) (λ c. search needs) (λ c. search needs) (λ c. search needs) returns-2)

@@ -22,24 +22,6 @@ luma-is c = c .before .before .before .before .target-of .ensures ∙ ap (λ s. 
 chroma-is : (c : tie.After-row-pr) → c .before .before .before .target-of2 .result ≡ chromaTarget (start c .args .s)
 chroma-is c = c .before .before .before .target-of2 .ensures ∙ ap (λ s. targetOf (start c .args .s .«ycc_full») s (start c .args .s .depths .chroma .0)) (c .before .before .before .before .before .chroma-scale .ensures)
 
-rgb-scale-requires : tie.Need-rgb-scale-requires
-rgb-scale-requires c κs = search needs
-
-sources-of-rgb-requires : tie.Need-sources-of-rgb-requires
-sources-of-rgb-requires c κs = search needs
-
-luma-scale-requires : tie.Need-luma-scale-requires
-luma-scale-requires c κs = search needs
-
-chroma-scale-requires : tie.Need-chroma-scale-requires
-chroma-scale-requires c κs = search needs
-
-target-of-requires : tie.Need-target-of-requires
-target-of-requires c κs = search needs
-
-target-of-requires-2 : tie.Need-target-of-requires-2
-target-of-requires-2 c κs = search needs
-
 row-y-requires : tie.Need-row-y-requires
 row-y-requires c κs = c .before .before .before .before .before .before .before .before .before .before .before .pre .shares
 
@@ -79,4 +61,4 @@ returns c =
     }
 
 pub forward-lines-spec : {M : Type 1} → statement M
-forward-lines-spec = tie.close (tie.spec rgb-scale-requires sources-of-rgb-requires luma-scale-requires chroma-scale-requires target-of-requires target-of-requires-2 row-y-requires row-pb-requires row-pr-requires line-of-requires line-of-requires-2 line-of-requires-3 returns)
+forward-lines-spec = tie.close (tie.spec (λ c κs. search needs) (λ c κs. search needs) (λ c κs. search needs) (λ c κs. search needs) (λ c κs. search needs) (λ c κs. search needs) row-y-requires row-pb-requires row-pr-requires line-of-requires line-of-requires-2 line-of-requires-3 returns)

@@ -19,22 +19,10 @@ from-is c = c .before .before .before .before .before .sources-of-ycc .ensures �
 rgb-is : (c : tie.After-row-b) → c .before .before .before .target-of .result ≡ rgbTarget (start c .args .s)
 rgb-is c = c .before .before .before .target-of .ensures ∙ ap (λ s. targetOf (start c .args .s .«rgb_full») s (start c .args .s .depths .rgb .0)) (c .before .before .before .before .rgb-scale .ensures)
 
-luma-scale-requires : tie.Need-luma-scale-requires
-luma-scale-requires c κs = search needs
-
-chroma-scale-requires : tie.Need-chroma-scale-requires
-chroma-scale-requires c κs = search needs
-
 sources-of-ycc-requires : tie.Need-sources-of-ycc-requires
 sources-of-ycc-requires c κs =
     let s = c .before .before .before .before .before .before .before in
     (rw (c .before .luma-scale .ensures) (luma-served (s .args .s) (s .pre)), rw (c .chroma-scale .ensures) (chroma-served (s .args .s) (s .pre)))
-
-rgb-scale-requires : tie.Need-rgb-scale-requires
-rgb-scale-requires c κs = search needs
-
-target-of-requires : tie.Need-target-of-requires
-target-of-requires c κs = search needs
 
 row-r-requires : tie.Need-row-r-requires
 row-r-requires c κs = c .before .before .before .before .before .before .before .before .before .before .pre .shares
@@ -75,4 +63,4 @@ returns c =
     }
 
 pub reverse-lines-spec : {M : Type 1} → statement M
-reverse-lines-spec = tie.close (tie.spec luma-scale-requires chroma-scale-requires sources-of-ycc-requires rgb-scale-requires target-of-requires row-r-requires row-g-requires row-b-requires line-of-requires line-of-requires-2 line-of-requires-3 returns)
+reverse-lines-spec = tie.close (tie.spec (λ c κs. search needs) (λ c κs. search needs) sources-of-ycc-requires (λ c κs. search needs) (λ c κs. search needs) row-r-requires row-g-requires row-b-requires line-of-requires line-of-requires-2 line-of-requires-3 returns)

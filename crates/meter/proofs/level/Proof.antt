@@ -5,8 +5,8 @@ use borrow.Author.Needs.{needs}
 use lib.IntN.{pos, _-ℤ_}
 use mir.Syntax.{w32}
 use mir.Val.{toZ, ofZ}
-use Rattle.whole.proofs.Difference.{parts}
-use Rattle.whole.proofs.Closers.{signed-fits, reads-back}
+use Rattle.rounding.proofs.Difference.{parts}
+use Rattle.rounding.proofs.Closers.{signed-fits, reads-back}
 use Rattle.meter.proofs.Exact.{in-float, numerator-size}
 use Rattle.meter.proofs.level.Statement.{statement}
 use Rattle.meter.proofs.level.Tie as tie
@@ -19,12 +19,6 @@ plus-is s = reads-back w32 {z = pos (s .args .s .plus)} (search parts) (omega ar
 
 above-is : (s : tie.Start) → toZ w32 (ofZ w32 (pos (s .args .v) -ℤ pos (s .args .s .plus))) ≡ pos (s .args .v) -ℤ pos (s .args .s .plus)
 above-is s = reads-back w32 (search parts) (omega arith) (omega arith)
-
-cast-above : tie.Need-cast-above
-cast-above c = search needs
-
-cast-above-2 : tie.Need-cast-above-2
-cast-above-2 c = search needs
 
 sub-above : tie.Need-sub-above
 sub-above c = simp (v-is c, plus-is c) (signed-fits (search parts) (omega arith) (omega arith))
@@ -41,4 +35,4 @@ returns : tie.Need-returns
 returns c = let s = c .before .before in simp (v-is s, plus-is s, above-is s)
 
 pub level-spec : {M : Type 1} → statement M
-level-spec = tie.close (tie.spec cast-above cast-above-2 sub-above int-to-float-numerator int-to-float-denominator returns)
+level-spec = tie.close (tie.spec (λ c. search needs) (λ c. search needs) sub-above int-to-float-numerator int-to-float-denominator returns)

@@ -6,9 +6,6 @@ use Rattle.meter.proofs.Scales.{measurable}
 use Rattle.meter.proofs.level_of.Statement.{statement}
 use Rattle.meter.proofs.level_of.Tie as tie
 
-scale-of-requires : tie.Need-scale-of-requires
-scale-of-requires c κs = search needs
-
 level-requires : tie.Need-level-requires
 level-requires c κs =
     let a = c .before .args in
@@ -20,4 +17,4 @@ unfolding levelOf
 returns c = c .level .ensures ∙ ap (λ s. floatQuotient (c .before .before .args .v) s) (c .before .scale-of .ensures)
 
 pub level-of-spec : {M : Type 1} → statement M
-level-of-spec = tie.close (tie.spec scale-of-requires level-requires returns)
+level-of-spec = tie.close (tie.spec (λ c κs. search needs) level-requires returns)

@@ -3,14 +3,8 @@ use borrow.Author.Needs.{needs}
 use Rattle.picture.proofs.beyond_depth.Statement.{statement}
 use Rattle.picture.proofs.beyond_depth.Tie as tie
 
-tops-requires : tie.Need-tops-requires
-tops-requires c κs = search needs
-
-first-bad-of-three-requires : tie.Need-first-bad-of-three-requires
-first-bad-of-three-requires c κs = search needs
-
 returns : tie.Need-returns
 returns c = rw (← c .before .tops .ensures) (c .first-bad-of-three .ensures)
 
 pub beyond-depth-spec : {M : Type 1} → statement M
-beyond-depth-spec = tie.close (tie.spec tops-requires first-bad-of-three-requires returns)
+beyond-depth-spec = tie.close (tie.spec (λ c κs. search needs) (λ c κs. search needs) returns)

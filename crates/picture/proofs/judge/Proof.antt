@@ -3,8 +3,8 @@ use mathlib.Core.Path.{_≡_, sym, ap, _∙_}
 use mathlib.Core.List.{[], _∷_}
 use Rattle.setting.specs.Refusals.{served, refusalOf, verdictOf}
 use Rattle.setting.specs.declared.verdict.Verdict.the-variants as verdict
-use Rattle.plane.specs.Sizes.{sizeRefusal}
-use Rattle.plane.proofs.SizeTheorems as sizes
+use Rattle.planes.specs.Sizes.{sizeRefusal}
+use Rattle.planes.proofs.SizeTheorems as sizes
 use Rattle.picture.specs.Picture.{Picture, picture, sideOfPicture}
 use Rattle.picture.specs.Verdict.{beyondDepth, pastServed}
 use Rattle.picture.proofs.VerdictLaws.{told-served, verdict-ready, by-setting, by-size, by-sample}
@@ -30,25 +30,10 @@ accepted c = told-served _ _ _ (told-by c)
 fits : (c : tie.Else1) → sizeRefusal (start (c .before .before) .args .width) (start (c .before .before) .args .height) (sideOfPicture (lent (start (c .before .before))) ∷ start (c .before .before) .args .other ∷ []) ≡ 0
 fits c = sym (c .before .size-refusal-two .ensures) ∙ c .if1 .left
 
-judge-requires : tie.Need-judge-requires
-judge-requires c κs = search needs
-
-enum-known-verdict : tie.Need-enum-known-verdict
-enum-known-verdict c = search needs
-
-enum-told : tie.Need-enum-told
-enum-told c = search needs
-
 returns : tie.Need-returns
 returns c =
     let told = c .enum-told .given .1 in
     told ∙ by-setting _ _ _ _ _ _ (sym (c .before .before .judge .ensures) ∙ told)
-
-size-refusal-two-requires : tie.Need-size-refusal-two-requires
-size-refusal-two-requires c κs = search needs
-
-plain-requires : tie.Need-plain-requires
-plain-requires c κs = search needs
 
 returns-2 : tie.Need-returns-2
 returns-2 c =
@@ -64,9 +49,6 @@ beyond-depth-requires c κs =
     let side = sizes.served _ _ _ (fits (c .before)) .0 in
     (verdict-ready _ _ _ (told-by told) .three, (side .sized, side .long))
 
-past-requires : tie.Need-past-requires
-past-requires c κs = search needs
-
 returns-3 : tie.Need-returns-3
 returns-3 c =
     let told = c .before .before .before .before .before in
@@ -81,13 +63,13 @@ pub judge-spec : {M : Type 1} → statement M
 judge-spec =
     tie.close
     (tie.spec
-    judge-requires
-    enum-known-verdict
-    enum-told
+    (λ c κs. search needs)
+    (λ c. search needs)
+    (λ c. search needs)
     returns
-    size-refusal-two-requires
-    plain-requires
+    (λ c κs. search needs)
+    (λ c κs. search needs)
     returns-2
     beyond-depth-requires
-    past-requires
+    (λ c κs. search needs)
     returns-3)

@@ -13,31 +13,16 @@ prepared-lines : (c : tie.After-known-told) → c .before .before .before .befor
 unfolding preparedFor
 prepared-lines c = c .before .before .before .before .pre .1 .0 ∙ ap (λ f. preparedBy (c .before .before .before .before .args .way) f (c .before .before .before .before .args .s)) (c .before .family .given .1)
 
-enum-told : tie.Need-enum-told
-enum-told c = search needs
-
-swap-requires : tie.Need-swap-requires
-swap-requires c κs = search needs
-
-enum-known-family : tie.Need-enum-known-family
-enum-known-family c = search needs
-
 luma-prepared-requires : tie.Need-luma-prepared-requires
 luma-prepared-requires c κs =
     let s = c .before .before .before .before in
     let k = subst (λ f. Agreed f (s .args .s)) (c .before .family .given .1) (s .pre .0 .agreed) in
     (k, (prepared-lines c, small (s .args .way) _ (s .args .p) k (s .pre .1 .1)))
 
-enum-told-2 : tie.Need-enum-told-2
-enum-told-2 c = search needs
-
 ycgco-by-depth-requires : tie.Need-ycgco-by-depth-requires
 ycgco-by-depth-requires c κs =
     let s = c .before .before .before in
     (subst (λ f. Agreed f (s .args .s)) (c .enum-told2 .given .1) (s .pre .0 .agreed), s .pre .1 .1)
-
-enum-told-3 : tie.Need-enum-told-3
-enum-told-3 c = search needs
 
 lossless-requires : tie.Need-lossless-requires
 lossless-requires c κs =
@@ -65,13 +50,13 @@ pub convert-spec : {M : Type 1} → statement M
 convert-spec =
     tie.close
     (tie.spec
-    enum-told
-    swap-requires
-    enum-known-family
+    (λ c. search needs)
+    (λ c κs. search needs)
+    (λ c. search needs)
     luma-prepared-requires
-    enum-told-2
+    (λ c. search needs)
     ycgco-by-depth-requires
-    enum-told-3
+    (λ c. search needs)
     lossless-requires
     returns
     returns-2

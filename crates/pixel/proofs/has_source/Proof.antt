@@ -9,22 +9,10 @@ use borrow.Author.Needs.{needs}
 use Rattle.pixel.proofs.has_source.Statement.{statement}
 use Rattle.pixel.proofs.has_source.Tie as tie
 
-prepare-requires : tie.Need-prepare-requires
-prepare-requires c κs = search needs
-
-convert-requires : tie.Need-convert-requires
-convert-requires c κs = search needs
-
-prepare-requires-2 : tie.Need-prepare-requires-2
-prepare-requires-2 c κs = search needs
-
 convert-requires-2 : tie.Need-convert-requires-2
 convert-requires-2 c κs =
     let s = c .before .before .before in
     (s .pre .0, (c .prepare2 .ensures, subst (λ q. InsideRGB (s .args .s .depths) q) (sym (c .before .convert .ensures)) (reverse-inside (s .args .s) (s .args .p) (s .pre .0) (s .pre .1))))
-
-is-same-requires : tie.Need-is-same-requires
-is-same-requires c κs = search needs
 
 returns : tie.Need-returns
 unfolding hasSource
@@ -37,9 +25,9 @@ pub has-source-spec : {M : Type 1} → statement M
 has-source-spec =
     tie.close
     (tie.spec
-    prepare-requires
-    convert-requires
-    prepare-requires-2
+    (λ c κs. search needs)
+    (λ c κs. search needs)
+    (λ c κs. search needs)
     convert-requires-2
-    is-same-requires
+    (λ c κs. search needs)
     returns)

@@ -3,18 +3,6 @@ use borrow.Author.Needs.{needs}
 use Rattle.pixel.proofs.lines_of.Statement.{statement}
 use Rattle.pixel.proofs.lines_of.Tie as tie
 
-enum-told : tie.Need-enum-told
-enum-told c = search needs
-
-forward-lines-requires : tie.Need-forward-lines-requires
-forward-lines-requires c κs = search needs
-
-enum-told-2 : tie.Need-enum-told-2
-enum-told-2 c = search needs
-
-reverse-lines-requires : tie.Need-reverse-lines-requires
-reverse-lines-requires c κs = search needs
-
 returns : tie.Need-returns
 returns c = rw (c .before .enum-told .given .1) (c .forward-lines .ensures)
 
@@ -25,9 +13,9 @@ pub lines-of-spec : {M : Type 1} → statement M
 lines-of-spec =
     tie.close
     (tie.spec
-    enum-told
-    forward-lines-requires
-    enum-told-2
-    reverse-lines-requires
+    (λ c. search needs)
+    (λ c κs. search needs)
+    (λ c. search needs)
+    (λ c κs. search needs)
     returns
     returns-2)

@@ -3,17 +3,8 @@ use borrow.Author.Needs.{needs}
 use Rattle.pixel.proofs.lossless.Statement.{statement}
 use Rattle.pixel.proofs.lossless.Tie as tie
 
-enum-told : tie.Need-enum-told
-enum-told c = search needs
-
 lossless-forward-requires : tie.Need-lossless-forward-requires
 lossless-forward-requires c κs = (c .before .before .pre .0, rw (c .enum-told .given .1) at (c .before .before .pre .1))
-
-enum-told-2 : tie.Need-enum-told-2
-enum-told-2 c = search needs
-
-lossless-reverse-requires : tie.Need-lossless-reverse-requires
-lossless-reverse-requires c κs = search needs
 
 returns : tie.Need-returns
 returns c = rw (c .before .enum-told .given .1) (c .lossless-forward .ensures)
@@ -25,9 +16,9 @@ pub lossless-spec : {M : Type 1} → statement M
 lossless-spec =
     tie.close
     (tie.spec
-    enum-told
+    (λ c. search needs)
     lossless-forward-requires
-    enum-told-2
-    lossless-reverse-requires
+    (λ c. search needs)
+    (λ c κs. search needs)
     returns
     returns-2)

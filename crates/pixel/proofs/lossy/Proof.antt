@@ -3,18 +3,6 @@ use borrow.Author.Needs.{needs}
 use Rattle.pixel.proofs.lossy.Statement.{statement}
 use Rattle.pixel.proofs.lossy.Tie as tie
 
-enum-told : tie.Need-enum-told
-enum-told c = search needs
-
-lossy-forward-requires : tie.Need-lossy-forward-requires
-lossy-forward-requires c κs = search needs
-
-enum-told-2 : tie.Need-enum-told-2
-enum-told-2 c = search needs
-
-lossy-reverse-requires : tie.Need-lossy-reverse-requires
-lossy-reverse-requires c κs = search needs
-
 returns : tie.Need-returns
 returns c = rw (c .before .enum-told .given .1) (c .lossy-forward .ensures)
 
@@ -25,9 +13,9 @@ pub lossy-spec : {M : Type 1} → statement M
 lossy-spec =
     tie.close
     (tie.spec
-    enum-told
-    lossy-forward-requires
-    enum-told-2
-    lossy-reverse-requires
+    (λ c. search needs)
+    (λ c κs. search needs)
+    (λ c. search needs)
+    (λ c κs. search needs)
     returns
     returns-2)

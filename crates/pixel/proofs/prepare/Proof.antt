@@ -6,20 +6,8 @@ use borrow.Author.Needs.{needs}
 use Rattle.pixel.proofs.prepare.Statement.{statement}
 use Rattle.pixel.proofs.prepare.Tie as tie
 
-enum-told : tie.Need-enum-told
-enum-told c = search needs
-
-enum-known-family : tie.Need-enum-known-family
-enum-known-family c = search needs
-
 lines-of-requires : tie.Need-lines-of-requires
 lines-of-requires c κs = subst (λ f. Agreed f (c .before .before .before .before .args .s)) (c .before .family .given .1) (c .before .before .before .before .pre .agreed)
-
-enum-told-2 : tie.Need-enum-told-2
-enum-told-2 c = search needs
-
-enum-told-3 : tie.Need-enum-told-3
-enum-told-3 c = search needs
 
 returns : tie.Need-returns
 unfolding preparedFor
@@ -41,11 +29,11 @@ pub prepare-spec : {M : Type 1} → statement M
 prepare-spec =
     tie.close
     (tie.spec
-    enum-told
-    enum-known-family
+    (λ c. search needs)
+    (λ c. search needs)
     lines-of-requires
-    enum-told-2
-    enum-told-3
+    (λ c. search needs)
+    (λ c. search needs)
     returns
     returns-2
     returns-3

@@ -16,9 +16,6 @@ roomy c =
     let e : d .chroma .0 ≡ d .luma .0 + 1 = ⊎-elim (λ e. absurd (c .if1 .left e)) (λ e. e) (k .or-deeper) in
     roomy-8 d k e
 
-lossy-requires : tie.Need-lossy-requires
-lossy-requires c κs = search needs
-
 returns : tie.Need-returns
 returns c = rw (eq-eqb _ _ (c .before .if1 .taken)) (c .lossy .ensures)
 
@@ -29,4 +26,4 @@ returns-2 : tie.Need-returns-2
 returns-2 c = rw (ne-eqb _ _ (c .before .if1 .left)) (c .lossless .ensures)
 
 pub ycgco-by-depth-spec : {M : Type 1} → statement M
-ycgco-by-depth-spec = tie.close (tie.spec lossy-requires returns lossless-requires returns-2)
+ycgco-by-depth-spec = tie.close (tie.spec (λ c κs. search needs) returns lossless-requires returns-2)

@@ -9,27 +9,12 @@ use borrow.Author.Needs.{needs}
 use Rattle.row.proofs.luma.Statement.{statement}
 use Rattle.row.proofs.luma.Tie as tie
 
-enum-known-prepared : tie.Need-enum-known-prepared
-enum-known-prepared c = search needs
-
 luma-requires : tie.Need-luma-requires
 luma-requires c κs =
     let s = c .before .before .before .before .before .before .before .before .before .before .before .before in
     let e = sym (c .before .before .before .before .prepared .given .1) ∙ s .pre .1 .0 in
     let found : c .before .before .before .before .prepared .given .0 .0 ≡ lines (s .args .way) (s .args .s) = cc in
     (subst Rooms (sym found) (rooms (s .args .way) (s .args .s) (s .pre .0)), s .pre .1 .1)
-
-enum-told : tie.Need-enum-told
-enum-told c = search needs
-
-same-length : tie.Need-same-length
-same-length c = search needs
-
-same-length-2 : tie.Need-same-length-2
-same-length-2 c = search needs
-
-same-length-3 : tie.Need-same-length-3
-same-length-3 c = search needs
 
 returns : tie.Need-returns
 returns c =
@@ -48,11 +33,11 @@ pub luma-spec : {M : Type 1} → statement M
 luma-spec =
     tie.close
     (tie.spec
-    enum-known-prepared
+    (λ c. search needs)
     luma-requires
-    enum-told
-    same-length
-    same-length-2
-    same-length-3
+    (λ c. search needs)
+    (λ c. search needs)
+    (λ c. search needs)
+    (λ c. search needs)
     returns
     returns-2)

@@ -13,18 +13,6 @@ use Rattle.row.proofs.ycgco_by_depth.Tie as tie
 deeper : (c : tie.Else1) → c .before .before .before .before .before .before .before .args .d .chroma .0 ≡ c .before .before .before .before .before .before .before .args .d .luma .0 + 1
 deeper c = ⊎-elim (λ e. absurd (c .if1 .left e)) (λ e. e) (c .before .before .before .before .before .before .before .pre .0 .or-deeper)
 
-lossy-requires : tie.Need-lossy-requires
-lossy-requires c κs = search needs
-
-same-length : tie.Need-same-length
-same-length c = search needs
-
-same-length-2 : tie.Need-same-length-2
-same-length-2 c = search needs
-
-same-length-3 : tie.Need-same-length-3
-same-length-3 c = search needs
-
 returns : tie.Need-returns
 returns c =
     let x = c .before .before .before .before .before .before .before .before .before .before .before .before .before .before .before .before .before .args in
@@ -35,15 +23,6 @@ lossless-requires c κs =
     let s = c .before .before .before .before .before .before .before .before .before .before in
     (roomy-8 (s .args .d) (s .pre .0) (deeper (c .before .before .before)), s .pre .1)
 
-same-length-4 : tie.Need-same-length-4
-same-length-4 c = search needs
-
-same-length-5 : tie.Need-same-length-5
-same-length-5 c = search needs
-
-same-length-6 : tie.Need-same-length-6
-same-length-6 c = search needs
-
 returns-2 : tie.Need-returns-2
 returns-2 c =
     let x = c .before .before .before .before .before .before .before .before .before .before .before .before .before .before .before .before .before .args in
@@ -53,13 +32,13 @@ pub ycgco-by-depth-spec : {M : Type 1} → statement M
 ycgco-by-depth-spec =
     tie.close
     (tie.spec
-    lossy-requires
-    same-length
-    same-length-2
-    same-length-3
+    (λ c κs. search needs)
+    (λ c. search needs)
+    (λ c. search needs)
+    (λ c. search needs)
     returns
     lossless-requires
-    same-length-4
-    same-length-5
-    same-length-6
+    (λ c. search needs)
+    (λ c. search needs)
+    (λ c. search needs)
     returns-2)

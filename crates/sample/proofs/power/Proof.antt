@@ -14,11 +14,8 @@ is-power : (d r : ℕ) → d ≤ 16 → r ≡ 2 ^ d → Power d r
 is-power d r h e =
     record { is = e; some = subst (λ n. 0 < n) (sym e) (pow-pos d); fits = subst (λ n. n ≤ 65536) (sym e) (pow-mono {j = 16} h) }
 
-shl-result : tie.Need-shl-result
-shl-result c = search needs
-
 returns : tie.Need-returns
 returns c = is-power _ _ (c .pre) (shl-exact 1 (c .args .bits) 32 (lit< tt) (omega arith) ∙ one-mul _)
 
 pub power-spec : {M : Type 1} → statement M
-power-spec = tie.close (tie.spec shl-result returns)
+power-spec = tie.close (tie.spec (λ c. search needs) returns)

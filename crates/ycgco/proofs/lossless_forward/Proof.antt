@@ -13,41 +13,11 @@ wide : (s : tie.Start) → let H = 2 ^ (s .args .d .chroma .0 - 1) in (2 ^ (s .a
 wide s =
     (pow-mono {j = s .args .d .chroma .0 - 1} (omega (arith, s .pre .0 .chroma-room)), pow-mono {j = 15} (omega (arith, s .pre .0 .chroma-most)))
 
-sub-power : tie.Need-sub-power
-sub-power c = search needs
-
-power-requires : tie.Need-power-requires
-power-requires c κs = search needs
-
-cast-r : tie.Need-cast-r
-cast-r c = search needs
-
-cast-g : tie.Need-cast-g
-cast-g c = search needs
-
-cast-b : tie.Need-cast-b
-cast-b c = search needs
-
-add-cr : tie.Need-add-cr
-add-cr c = search needs
-
 sub-cr : tie.Need-sub-cr
 sub-cr c = omega (arith, wide (c .before .before .before .before))
 
-add-t : tie.Need-add-t
-add-t c = search needs
-
-add-cb : tie.Need-add-cb
-add-cb c = search needs
-
 sub-cb : tie.Need-sub-cb
 sub-cb c = omega (arith, wide (c .before .before .before .before))
-
-add-y : tie.Need-add-y
-add-y c = search needs
-
-cast-t14 : tie.Need-cast-t14
-cast-t14 c = search needs
 
 cast-t15 : tie.Need-cast-t15
 cast-t15 c = omega (arith, wide (c .before .before .before .before))
@@ -72,18 +42,18 @@ pub lossless-forward-spec : {M : Type 1} → statement M
 lossless-forward-spec =
     tie.close
     (tie.spec
-    sub-power
-    power-requires
-    cast-r
-    cast-g
-    cast-b
-    add-cr
+    (λ c. search needs)
+    (λ c κs. search needs)
+    (λ c. search needs)
+    (λ c. search needs)
+    (λ c. search needs)
+    (λ c. search needs)
     sub-cr
-    add-t
-    add-cb
+    (λ c. search needs)
+    (λ c. search needs)
     sub-cb
-    add-y
-    cast-t14
+    (λ c. search needs)
+    (λ c. search needs)
     cast-t15
     cast-t16
     returns)

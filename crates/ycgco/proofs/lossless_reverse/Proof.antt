@@ -2,66 +2,12 @@
 use mathlib.Core.Path.{ap, _∙_}
 use Prim.Native.Nat.{_-_, _^_}
 use lib.IntN.{pos, _+ℤ_, _-ℤ_}
-use Rattle.whole.proofs.Closers.{clip-same}
+use Rattle.rounding.proofs.Closers.{clip-same}
 use Rattle.ycgco.specs.YCgCo.{losslessReverse}
 use Rattle.ycgco.proofs.Arithmetic.{lossless-g, lossless-b, lossless-r}
 use borrow.Author.Needs.{needs}
 use Rattle.ycgco.proofs.lossless_reverse.Statement.{statement}
 use Rattle.ycgco.proofs.lossless_reverse.Tie as tie
-
-sub-power : tie.Need-sub-power
-sub-power c = search needs
-
-power-requires : tie.Need-power-requires
-power-requires c κs = search needs
-
-power-requires-2 : tie.Need-power-requires-2
-power-requires-2 c κs = search needs
-
-sub-top : tie.Need-sub-top
-sub-top c = search needs
-
-cast-y : tie.Need-cast-y
-cast-y c = search needs
-
-cast-cb : tie.Need-cast-cb
-cast-cb c = search needs
-
-cast-cr : tie.Need-cast-cr
-cast-cr c = search needs
-
-add-half-cb : tie.Need-add-half-cb
-add-half-cb c = search needs
-
-add-half-cr : tie.Need-add-half-cr
-add-half-cr c = search needs
-
-add-clip-difference : tie.Need-add-clip-difference
-add-clip-difference c = search needs
-
-clip-difference-requires : tie.Need-clip-difference-requires
-clip-difference-requires c κs = search needs
-
-mul-clip-difference : tie.Need-mul-clip-difference
-mul-clip-difference c = search needs
-
-add-clip-difference-2 : tie.Need-add-clip-difference-2
-add-clip-difference-2 c = search needs
-
-add-clip-difference-3 : tie.Need-add-clip-difference-3
-add-clip-difference-3 c = search needs
-
-clip-difference-requires-2 : tie.Need-clip-difference-requires-2
-clip-difference-requires-2 c κs = search needs
-
-cast-clip-difference : tie.Need-cast-clip-difference
-cast-clip-difference c = search needs
-
-add-clip-difference-4 : tie.Need-add-clip-difference-4
-add-clip-difference-4 c = search needs
-
-clip-difference-requires-3 : tie.Need-clip-difference-requires-3
-clip-difference-requires-3 c κs = search needs
 
 returns : tie.Need-returns
 unfolding losslessReverse
@@ -79,22 +25,22 @@ pub lossless-reverse-spec : {M : Type 1} → statement M
 lossless-reverse-spec =
     tie.close
     (tie.spec
-    sub-power
-    power-requires
-    power-requires-2
-    sub-top
-    cast-y
-    cast-cb
-    cast-cr
-    add-half-cb
-    add-half-cr
-    add-clip-difference
-    clip-difference-requires
-    mul-clip-difference
-    add-clip-difference-2
-    add-clip-difference-3
-    clip-difference-requires-2
-    cast-clip-difference
-    add-clip-difference-4
-    clip-difference-requires-3
+    (λ c. search needs)
+    (λ c κs. search needs)
+    (λ c κs. search needs)
+    (λ c. search needs)
+    (λ c. search needs)
+    (λ c. search needs)
+    (λ c. search needs)
+    (λ c. search needs)
+    (λ c. search needs)
+    (λ c. search needs)
+    (λ c κs. search needs)
+    (λ c. search needs)
+    (λ c. search needs)
+    (λ c. search needs)
+    (λ c κs. search needs)
+    (λ c. search needs)
+    (λ c. search needs)
+    (λ c κs. search needs)
     returns)

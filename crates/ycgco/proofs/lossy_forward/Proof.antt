@@ -3,59 +3,14 @@ use mathlib.Core.Path.{ap, _∙_}
 use Prim.Native.Nat.{_-_}
 use native.Mathlib.Omega.{arith}
 use lib.IntN.{pos, _+ℤ_, _-ℤ_}
-use Rattle.whole.specs.Whole.{round}
-use Rattle.whole.proofs.Closers.{clip-same}
+use Rattle.rounding.specs.Rounding.{round}
+use Rattle.rounding.proofs.Closers.{clip-same}
 use Rattle.sample.proofs.DepthLaws.{doubles}
 use Rattle.ycgco.specs.YCgCo.{lossyForward}
 use Rattle.ycgco.proofs.Arithmetic.{lossy-y, lossy-cb}
 use borrow.Author.Needs.{needs}
 use Rattle.ycgco.proofs.lossy_forward.Statement.{statement}
 use Rattle.ycgco.proofs.lossy_forward.Tie as tie
-
-sub-power : tie.Need-sub-power
-sub-power c = search needs
-
-power-requires : tie.Need-power-requires
-power-requires c κs = search needs
-
-cast-h : tie.Need-cast-h
-cast-h c = search needs
-
-power-requires-2 : tie.Need-power-requires-2
-power-requires-2 c κs = search needs
-
-cast-top : tie.Need-cast-top
-cast-top c = search needs
-
-sub-top : tie.Need-sub-top
-sub-top c = search needs
-
-cast-r : tie.Need-cast-r
-cast-r c = search needs
-
-cast-g : tie.Need-cast-g
-cast-g c = search needs
-
-cast-b : tie.Need-cast-b
-cast-b c = search needs
-
-mul-round-clip : tie.Need-mul-round-clip
-mul-round-clip c = search needs
-
-add-round-clip : tie.Need-add-round-clip
-add-round-clip c = search needs
-
-add-round-clip-2 : tie.Need-add-round-clip-2
-add-round-clip-2 c = search needs
-
-round-clip-requires : tie.Need-round-clip-requires
-round-clip-requires c κs = search needs
-
-mul-round-clip-2 : tie.Need-mul-round-clip-2
-mul-round-clip-2 c = search needs
-
-add-round-clip-3 : tie.Need-add-round-clip-3
-add-round-clip-3 c = search needs
 
 round-clip-requires-2 : tie.Need-round-clip-requires-2
 round-clip-requires-2 c κs =
@@ -82,21 +37,21 @@ pub lossy-forward-spec : {M : Type 1} → statement M
 lossy-forward-spec =
     tie.close
     (tie.spec
-    sub-power
-    power-requires
-    cast-h
-    power-requires-2
-    cast-top
-    sub-top
-    cast-r
-    cast-g
-    cast-b
-    mul-round-clip
-    add-round-clip
-    add-round-clip-2
-    round-clip-requires
-    mul-round-clip-2
-    add-round-clip-3
+    (λ c. search needs)
+    (λ c κs. search needs)
+    (λ c. search needs)
+    (λ c κs. search needs)
+    (λ c. search needs)
+    (λ c. search needs)
+    (λ c. search needs)
+    (λ c. search needs)
+    (λ c. search needs)
+    (λ c. search needs)
+    (λ c. search needs)
+    (λ c. search needs)
+    (λ c κs. search needs)
+    (λ c. search needs)
+    (λ c. search needs)
     round-clip-requires-2
     round-clip-requires-3
     returns)

@@ -6,68 +6,14 @@ use borrow.Author.Needs.{needs}
 use Rattle.cases.proofs.planes.image_line.Statement.{statement}
 use Rattle.cases.proofs.planes.image_line.Tie as tie
 
-setting-at-requires : tie.Need-setting-at-requires
-setting-at-requires c κs = search needs
+slice-aggregate-image-check : tie.Need-slice-aggregate-image-check
+slice-aggregate-image-check c = sym (length-take-le _ _ (omega arith))
 
-number-requires : tie.Need-number-requires
-number-requires c κs = search needs
+slice-aggregate-image-check-2 : tie.Need-slice-aggregate-image-check-2
+slice-aggregate-image-check-2 c = sym (length-take-le _ _ (omega arith))
 
-number-requires-2 : tie.Need-number-requires-2
-number-requires-2 c κs = search needs
-
-number-requires-3 : tie.Need-number-requires-3
-number-requires-3 c κs = search needs
-
-slice-aggregate-plane : tie.Need-slice-aggregate-plane
-slice-aggregate-plane c = search needs
-
-plane-requires : tie.Need-plane-requires
-plane-requires c κs = search needs
-
-slice-aggregate-plane-2 : tie.Need-slice-aggregate-plane-2
-slice-aggregate-plane-2 c = search needs
-
-plane-requires-2 : tie.Need-plane-requires-2
-plane-requires-2 c κs = search needs
-
-slice-aggregate-plane-3 : tie.Need-slice-aggregate-plane-3
-slice-aggregate-plane-3 c = search needs
-
-plane-requires-3 : tie.Need-plane-requires-3
-plane-requires-3 c κs = search needs
-
-size-requires : tie.Need-size-requires
-size-requires c κs = search needs
-
-size-requires-2 : tie.Need-size-requires-2
-size-requires-2 c κs = search needs
-
-size-requires-3 : tie.Need-size-requires-3
-size-requires-3 c κs = search needs
-
-array-share-prefix-a0 : tie.Need-array-share-prefix-a0
-array-share-prefix-a0 c = search needs
-
-slice-aggregate-check-image : tie.Need-slice-aggregate-check-image
-slice-aggregate-check-image c = sym (length-take-le _ _ (omega arith))
-
-array-share-prefix-a1 : tie.Need-array-share-prefix-a1
-array-share-prefix-a1 c = search needs
-
-slice-aggregate-check-image-2 : tie.Need-slice-aggregate-check-image-2
-slice-aggregate-check-image-2 c = sym (length-take-le _ _ (omega arith))
-
-array-share-prefix-a2 : tie.Need-array-share-prefix-a2
-array-share-prefix-a2 c = search needs
-
-slice-aggregate-check-image-3 : tie.Need-slice-aggregate-check-image-3
-slice-aggregate-check-image-3 c = sym (length-take-le _ _ (omega arith))
-
-check-image-requires : tie.Need-check-image-requires
-check-image-requires c κs = search needs
-
-say-image-requires : tie.Need-say-image-requires
-say-image-requires c κs = search needs
+slice-aggregate-image-check-3 : tie.Need-slice-aggregate-image-check-3
+slice-aggregate-image-check-3 c = sym (length-take-le _ _ (omega arith))
 
 returns : tie.Need-returns
 returns c = omega (arith, c .before .before .before .before .before .before .before .before .before .plane3 .ensures .0, c .before .before .before .before .before .before .before .before .before .before .before .before .plane2 .ensures .0, c .before .before .before .before .before .before .before .before .before .before .before .before .before .before .before .plane .ensures .0, c .before .before .before .before .before .before .before .before .before .before .before .before .before .before .before .before .before .number3 .ensures, c .before .before .before .before .before .before .before .before .before .before .before .before .before .before .before .before .before .before .number2 .ensures, c .before .before .before .before .before .before .before .before .before .before .before .before .before .before .before .before .before .before .before .number .ensures, c .before .before .before .before .before .before .before .before .before .before .before .before .before .before .before .before .before .before .before .before .setting-at .ensures)
@@ -76,25 +22,25 @@ pub image-line-spec : {M : Type 1} → statement M
 image-line-spec =
     tie.close
     (tie.spec
-    setting-at-requires
-    number-requires
-    number-requires-2
-    number-requires-3
-    slice-aggregate-plane
-    plane-requires
-    slice-aggregate-plane-2
-    plane-requires-2
-    slice-aggregate-plane-3
-    plane-requires-3
-    size-requires
-    size-requires-2
-    size-requires-3
-    array-share-prefix-a0
-    slice-aggregate-check-image
-    array-share-prefix-a1
-    slice-aggregate-check-image-2
-    array-share-prefix-a2
-    slice-aggregate-check-image-3
-    check-image-requires
-    say-image-requires
+    (λ c κs. search needs)
+    (λ c κs. search needs)
+    (λ c κs. search needs)
+    (λ c κs. search needs)
+    (λ c. search needs)
+    (λ c κs. search needs)
+    (λ c. search needs)
+    (λ c κs. search needs)
+    (λ c. search needs)
+    (λ c κs. search needs)
+    (λ c κs. search needs)
+    (λ c κs. search needs)
+    (λ c κs. search needs)
+    (λ c. search needs)
+    slice-aggregate-image-check
+    (λ c. search needs)
+    slice-aggregate-image-check-2
+    (λ c. search needs)
+    slice-aggregate-image-check-3
+    (λ c κs. search needs)
+    (λ c κs. search needs)
     returns)

@@ -9,22 +9,10 @@ use borrow.Author.Needs.{needs}
 use Rattle.corkplover.proofs.admit.admit.Statement.{statement}
 use Rattle.corkplover.proofs.admit.admit.Tie as tie
 
-judge-requires : tie.Need-judge-requires
-judge-requires c κs = search needs
-
-enum-told : tie.Need-enum-told
-enum-told c = search needs
-
-enum-known-v : tie.Need-enum-known-v
-enum-known-v c = search needs
-
 bad-pixel-requires : tie.Need-bad-pixel-requires
 bad-pixel-requires c κs =
     let a = c .before .before .before .before .before .args in
     verdict-ready (a .call) (a .s) _ (sym (c .before .before .before .before .judge .ensures) ∙ c .before .before .v .given .1) .three
-
-past-requires : tie.Need-past-requires
-past-requires c κs = search needs
 
 returns : tie.Need-returns
 unfolding admitted
@@ -45,10 +33,10 @@ pub admit-spec : {M : Type 1} → statement M
 admit-spec =
     tie.close
     (tie.spec
-    judge-requires
-    enum-told
-    enum-known-v
+    (λ c κs. search needs)
+    (λ c. search needs)
+    (λ c. search needs)
     bad-pixel-requires
-    past-requires
+    (λ c κs. search needs)
     returns
     returns-2)

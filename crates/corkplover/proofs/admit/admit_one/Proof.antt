@@ -10,22 +10,10 @@ use borrow.Author.Needs.{needs}
 use Rattle.corkplover.proofs.admit.admit_one.Statement.{statement}
 use Rattle.corkplover.proofs.admit.admit_one.Tie as tie
 
-judge-requires : tie.Need-judge-requires
-judge-requires c κs = search needs
-
-enum-told : tie.Need-enum-told
-enum-told c = search needs
-
-enum-known-verdict : tie.Need-enum-known-verdict
-enum-known-verdict c = search needs
-
 bad-one-requires : tie.Need-bad-one-requires
 bad-one-requires c κs =
     let a = c .before .before .before .before .before .args in
     verdict-ready call.Meter (a .s) _ (sym (c .before .before .before .before .judge .ensures) ∙ c .before .before .verdict .given .1) .three
-
-past-requires : tie.Need-past-requires
-past-requires c κs = search needs
 
 returns : tie.Need-returns
 unfolding admittedOne
@@ -46,10 +34,10 @@ pub admit-one-spec : {M : Type 1} → statement M
 admit-one-spec =
     tie.close
     (tie.spec
-    judge-requires
-    enum-told
-    enum-known-verdict
+    (λ c κs. search needs)
+    (λ c. search needs)
+    (λ c. search needs)
     bad-one-requires
-    past-requires
+    (λ c κs. search needs)
     returns
     returns-2)

@@ -1,25 +1,10 @@
 -- `corkplover::admit::bad_pixel` meets its contract: a pixel is a picture of one row and one column.
 use mathlib.Core.Path.{_∙_}
 use mathlib.Core.List.{[], _∷_}
-use Rattle.plane.specs.First.{badSample}
+use Rattle.planes.specs.First.{badSample}
 use borrow.Author.Needs.{needs}
 use Rattle.corkplover.proofs.admit.bad_pixel.Statement.{statement}
 use Rattle.corkplover.proofs.admit.bad_pixel.Tie as tie
-
-tops-requires : tie.Need-tops-requires
-tops-requires c κs = search needs
-
-slice-aggregate-first-bad-of-three : tie.Need-slice-aggregate-first-bad-of-three
-slice-aggregate-first-bad-of-three c = search needs
-
-slice-aggregate-first-bad-of-three-2 : tie.Need-slice-aggregate-first-bad-of-three-2
-slice-aggregate-first-bad-of-three-2 c = search needs
-
-slice-aggregate-first-bad-of-three-3 : tie.Need-slice-aggregate-first-bad-of-three-3
-slice-aggregate-first-bad-of-three-3 c = search needs
-
-first-bad-of-three-requires : tie.Need-first-bad-of-three-requires
-first-bad-of-three-requires c κs = search needs
 
 returns : tie.Need-returns
 returns c =
@@ -32,9 +17,9 @@ pub bad-pixel-spec : {M : Type 1} → statement M
 bad-pixel-spec =
     tie.close
     (tie.spec
-    tops-requires
-    slice-aggregate-first-bad-of-three
-    slice-aggregate-first-bad-of-three-2
-    slice-aggregate-first-bad-of-three-3
-    first-bad-of-three-requires
+    (λ c κs. search needs)
+    (λ c. search needs)
+    (λ c. search needs)
+    (λ c. search needs)
+    (λ c κs. search needs)
     returns)

@@ -3,24 +3,6 @@ use borrow.Author.Needs.{needs}
 use Rattle.corkplover.proofs.admit.top_of.Statement.{statement}
 use Rattle.corkplover.proofs.admit.top_of.Tie as tie
 
-enum-told : tie.Need-enum-told
-enum-told c = search needs
-
-largest-requires : tie.Need-largest-requires
-largest-requires c κs = search needs
-
-enum-told-2 : tie.Need-enum-told-2
-enum-told-2 c = search needs
-
-largest-requires-2 : tie.Need-largest-requires-2
-largest-requires-2 c κs = search needs
-
-enum-told-3 : tie.Need-enum-told-3
-enum-told-3 c = search needs
-
-largest-requires-3 : tie.Need-largest-requires-3
-largest-requires-3 c κs = search needs
-
 returns : tie.Need-returns
 returns c = rw (c .before .enum-told .given .1) (c .largest .ensures)
 
@@ -34,12 +16,12 @@ pub top-of-spec : {M : Type 1} → statement M
 top-of-spec =
     tie.close
     (tie.spec
-    enum-told
-    largest-requires
-    enum-told-2
-    largest-requires-2
-    enum-told-3
-    largest-requires-3
+    (λ c. search needs)
+    (λ c κs. search needs)
+    (λ c. search needs)
+    (λ c κs. search needs)
+    (λ c. search needs)
+    (λ c κs. search needs)
     returns
     returns-2
     returns-3)

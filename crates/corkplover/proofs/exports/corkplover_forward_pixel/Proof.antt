@@ -7,18 +7,9 @@ use borrow.Author.Needs.{needs}
 use Rattle.corkplover.proofs.exports.corkplover_forward_pixel.Statement.{statement}
 use Rattle.corkplover.proofs.exports.corkplover_forward_pixel.Tie as tie
 
-setting-of-requires : tie.Need-setting-of-requires
-setting-of-requires c κs = search needs
-
-forward-pixel-requires : tie.Need-forward-pixel-requires
-forward-pixel-requires c κs = search needs
-
-pack-pixel-requires : tie.Need-pack-pixel-requires
-pack-pixel-requires c κs = search needs
-
 returns : tie.Need-returns
 returns c = c .pack-pixel .ensures ∙ ap packedPixel (c .before .forward-pixel .ensures ∙ ap (λ s. pixelAnswer Forward s (record { p0 = c .before .before .before .args .r; p1 = c .before .before .before .args .g; p2 = c .before .before .before .args .b })) (c .before .before .setting-of .ensures))
 
 pub corkplover-forward-pixel-spec : {M : Type 1} → statement M
 corkplover-forward-pixel-spec =
-    tie.close (tie.spec setting-of-requires forward-pixel-requires pack-pixel-requires returns)
+    tie.close (tie.spec (λ c κs. search needs) (λ c κs. search needs) (λ c κs. search needs) returns)

@@ -5,15 +5,9 @@ use borrow.Author.Needs.{needs}
 use Rattle.corkplover.proofs.exports.corkplover_matrix_label.Statement.{statement}
 use Rattle.corkplover.proofs.exports.corkplover_matrix_label.Tie as tie
 
-matrix-label-requires : tie.Need-matrix-label-requires
-matrix-label-requires c κs = search needs
-
-label-number-requires : tie.Need-label-number-requires
-label-number-requires c κs = search needs
-
 returns : tie.Need-returns
 returns c = c .label-number .ensures ∙ ap labelNumber (c .before .matrix-label .ensures)
 
 pub corkplover-matrix-label-spec : {M : Type 1} → statement M
 corkplover-matrix-label-spec =
-    tie.close (tie.spec matrix-label-requires label-number-requires returns)
+    tie.close (tie.spec (λ c κs. search needs) (λ c κs. search needs) returns)

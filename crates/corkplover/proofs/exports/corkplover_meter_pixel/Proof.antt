@@ -6,18 +6,6 @@ use borrow.Author.Needs.{needs}
 use Rattle.corkplover.proofs.exports.corkplover_meter_pixel.Statement.{statement}
 use Rattle.corkplover.proofs.exports.corkplover_meter_pixel.Tie as tie
 
-setting-of-requires : tie.Need-setting-of-requires
-setting-of-requires c κs = search needs
-
-meter-pixel-requires : tie.Need-meter-pixel-requires
-meter-pixel-requires c κs = search needs
-
-levels-in-requires : tie.Need-levels-in-requires
-levels-in-requires c κs = search needs
-
-pack-levels-requires : tie.Need-pack-levels-requires
-pack-levels-requires c κs = search needs
-
 returns : tie.Need-returns
 returns c =
     let e = c .before .before .meter-pixel .ensures ∙ ap (λ s. levelsAnswer s (record { p0 = c .before .before .before .before .args .y; p1 = c .before .before .before .before .args .cb; p2 = c .before .before .before .before .args .cr })) (c .before .before .before .setting-of .ensures) in
@@ -28,8 +16,8 @@ pub corkplover-meter-pixel-spec : {M : Type 1} → statement M
 corkplover-meter-pixel-spec =
     tie.close
     (tie.spec
-    setting-of-requires
-    meter-pixel-requires
-    levels-in-requires
-    pack-levels-requires
+    (λ c κs. search needs)
+    (λ c κs. search needs)
+    (λ c κs. search needs)
+    (λ c κs. search needs)
     returns)

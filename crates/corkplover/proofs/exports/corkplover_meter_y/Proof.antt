@@ -7,18 +7,6 @@ use borrow.Author.Needs.{needs}
 use Rattle.corkplover.proofs.exports.corkplover_meter_y.Statement.{statement}
 use Rattle.corkplover.proofs.exports.corkplover_meter_y.Tie as tie
 
-setting-of-requires : tie.Need-setting-of-requires
-setting-of-requires c κs = search needs
-
-meter-sample-requires : tie.Need-meter-sample-requires
-meter-sample-requires c κs = search needs
-
-level-in-requires : tie.Need-level-in-requires
-level-in-requires c κs = search needs
-
-pack-reading-requires : tie.Need-pack-reading-requires
-pack-reading-requires c κs = search needs
-
 returns : tie.Need-returns
 returns c =
     let e = c .before .before .meter-sample .ensures ∙ ap (λ s. reading Y s (c .before .before .before .before .args .v)) (c .before .before .before .setting-of .ensures) in
@@ -28,8 +16,8 @@ pub corkplover-meter-y-spec : {M : Type 1} → statement M
 corkplover-meter-y-spec =
     tie.close
     (tie.spec
-    setting-of-requires
-    meter-sample-requires
-    level-in-requires
-    pack-reading-requires
+    (λ c κs. search needs)
+    (λ c κs. search needs)
+    (λ c κs. search needs)
+    (λ c κs. search needs)
     returns)

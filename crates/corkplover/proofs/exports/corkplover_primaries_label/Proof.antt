@@ -5,15 +5,9 @@ use borrow.Author.Needs.{needs}
 use Rattle.corkplover.proofs.exports.corkplover_primaries_label.Statement.{statement}
 use Rattle.corkplover.proofs.exports.corkplover_primaries_label.Tie as tie
 
-primaries-label-requires : tie.Need-primaries-label-requires
-primaries-label-requires c κs = search needs
-
-label-number-requires : tie.Need-label-number-requires
-label-number-requires c κs = search needs
-
 returns : tie.Need-returns
 returns c = c .label-number .ensures ∙ ap labelNumber (c .before .primaries-label .ensures)
 
 pub corkplover-primaries-label-spec : {M : Type 1} → statement M
 corkplover-primaries-label-spec =
-    tie.close (tie.spec primaries-label-requires label-number-requires returns)
+    tie.close (tie.spec (λ c κs. search needs) (λ c κs. search needs) returns)

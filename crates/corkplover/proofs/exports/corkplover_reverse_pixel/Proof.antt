@@ -7,18 +7,9 @@ use borrow.Author.Needs.{needs}
 use Rattle.corkplover.proofs.exports.corkplover_reverse_pixel.Statement.{statement}
 use Rattle.corkplover.proofs.exports.corkplover_reverse_pixel.Tie as tie
 
-setting-of-requires : tie.Need-setting-of-requires
-setting-of-requires c κs = search needs
-
-reverse-pixel-requires : tie.Need-reverse-pixel-requires
-reverse-pixel-requires c κs = search needs
-
-pack-pixel-requires : tie.Need-pack-pixel-requires
-pack-pixel-requires c κs = search needs
-
 returns : tie.Need-returns
 returns c = c .pack-pixel .ensures ∙ ap packedPixel (c .before .reverse-pixel .ensures ∙ ap (λ s. pixelAnswer Reverse s (record { p0 = c .before .before .before .args .y; p1 = c .before .before .before .args .cb; p2 = c .before .before .before .args .cr })) (c .before .before .setting-of .ensures))
 
 pub corkplover-reverse-pixel-spec : {M : Type 1} → statement M
 corkplover-reverse-pixel-spec =
-    tie.close (tie.spec setting-of-requires reverse-pixel-requires pack-pixel-requires returns)
+    tie.close (tie.spec (λ c κs. search needs) (λ c κs. search needs) (λ c κs. search needs) returns)

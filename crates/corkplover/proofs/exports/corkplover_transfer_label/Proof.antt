@@ -5,15 +5,9 @@ use borrow.Author.Needs.{needs}
 use Rattle.corkplover.proofs.exports.corkplover_transfer_label.Statement.{statement}
 use Rattle.corkplover.proofs.exports.corkplover_transfer_label.Tie as tie
 
-transfer-label-requires : tie.Need-transfer-label-requires
-transfer-label-requires c κs = search needs
-
-label-number-requires : tie.Need-label-number-requires
-label-number-requires c κs = search needs
-
 returns : tie.Need-returns
 returns c = c .label-number .ensures ∙ ap labelNumber (c .before .transfer-label .ensures)
 
 pub corkplover-transfer-label-spec : {M : Type 1} → statement M
 corkplover-transfer-label-spec =
-    tie.close (tie.spec transfer-label-requires label-number-requires returns)
+    tie.close (tie.spec (λ c κs. search needs) (λ c κs. search needs) returns)

@@ -4,18 +4,9 @@ use borrow.Author.Needs.{needs}
 use Rattle.corkplover.proofs.packing.level_in.Statement.{statement}
 use Rattle.corkplover.proofs.packing.level_in.Tie as tie
 
-enum-known-answer : tie.Need-enum-known-answer
-enum-known-answer c = search needs
-
-enum-told : tie.Need-enum-told
-enum-told c = search needs
-
-returns : tie.Need-returns
-returns c = search needs
-
 returns-2 : tie.Need-returns-2
 unfolding ofBits
 returns-2 c = rw (c .enum-told .given .1)
 
 pub level-in-spec : {M : Type 1} → statement M
-level-in-spec = tie.close (tie.spec enum-known-answer enum-told returns returns-2)
+level-in-spec = tie.close (tie.spec (λ c. search needs) (λ c. search needs) (λ c. search needs) returns-2)

@@ -3,24 +3,6 @@ use borrow.Author.Needs.{needs}
 use Rattle.corkplover.proofs.packing.pack_image.Statement.{statement}
 use Rattle.corkplover.proofs.packing.pack_image.Tie as tie
 
-enum-told : tie.Need-enum-told
-enum-told c = search needs
-
-enum-known-answer : tie.Need-enum-known-answer
-enum-known-answer c = search needs
-
-pack-requires : tie.Need-pack-requires
-pack-requires c κs = search needs
-
-enum-known-answer-2 : tie.Need-enum-known-answer-2
-enum-known-answer-2 c = search needs
-
-pack-refusal-requires : tie.Need-pack-refusal-requires
-pack-refusal-requires c κs = search needs
-
-returns : tie.Need-returns
-returns c = search needs
-
 returns-2 : tie.Need-returns-2
 returns-2 c = rw (c .before .before .answer .given .1) (c .pack .ensures)
 
@@ -31,11 +13,11 @@ pub pack-image-spec : {M : Type 1} → statement M
 pack-image-spec =
     tie.close
     (tie.spec
-    enum-told
-    enum-known-answer
-    pack-requires
-    enum-known-answer-2
-    pack-refusal-requires
-    returns
+    (λ c. search needs)
+    (λ c. search needs)
+    (λ c κs. search needs)
+    (λ c. search needs)
+    (λ c κs. search needs)
+    (λ c. search needs)
     returns-2
     returns-3)

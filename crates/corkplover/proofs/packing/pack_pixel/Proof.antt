@@ -3,18 +3,6 @@ use borrow.Author.Needs.{needs}
 use Rattle.corkplover.proofs.packing.pack_pixel.Statement.{statement}
 use Rattle.corkplover.proofs.packing.pack_pixel.Tie as tie
 
-enum-known-answer : tie.Need-enum-known-answer
-enum-known-answer c = search needs
-
-pack-requires : tie.Need-pack-requires
-pack-requires c κs = search needs
-
-enum-known-answer-2 : tie.Need-enum-known-answer-2
-enum-known-answer-2 c = search needs
-
-pack-refusal-requires : tie.Need-pack-refusal-requires
-pack-refusal-requires c κs = search needs
-
 returns : tie.Need-returns
 returns c = rw (c .before .before .answer .given .1) (c .pack .ensures)
 
@@ -25,9 +13,9 @@ pub pack-pixel-spec : {M : Type 1} → statement M
 pack-pixel-spec =
     tie.close
     (tie.spec
-    enum-known-answer
-    pack-requires
-    enum-known-answer-2
-    pack-refusal-requires
+    (λ c. search needs)
+    (λ c κs. search needs)
+    (λ c. search needs)
+    (λ c κs. search needs)
     returns
     returns-2)

@@ -6,24 +6,6 @@ use borrow.Author.Needs.{needs}
 use Rattle.desk.proofs.ask.ask.Statement.{statement}
 use Rattle.desk.proofs.ask.ask.Tie as tie
 
-enum-known-request : tie.Need-enum-known-request
-enum-known-request c = search needs
-
-ask-pixel-requires : tie.Need-ask-pixel-requires
-ask-pixel-requires c κs = search needs
-
-enum-known-request-2 : tie.Need-enum-known-request-2
-enum-known-request-2 c = search needs
-
-ask-sample-requires : tie.Need-ask-sample-requires
-ask-sample-requires c κs = search needs
-
-enum-known-request-3 : tie.Need-enum-known-request-3
-enum-known-request-3 c = search needs
-
-label-of-requires : tie.Need-label-of-requires
-label-of-requires c κs = search needs
-
 returns : tie.Need-returns
 unfolding answerTo
 returns c = rw (c .before .before .request .given .1) (c .ask-pixel .ensures)
@@ -40,12 +22,12 @@ pub ask-spec : {M : Type 1} → statement M
 ask-spec =
     tie.close
     (tie.spec
-    enum-known-request
-    ask-pixel-requires
-    enum-known-request-2
-    ask-sample-requires
-    enum-known-request-3
-    label-of-requires
+    (λ c. search needs)
+    (λ c κs. search needs)
+    (λ c. search needs)
+    (λ c κs. search needs)
+    (λ c. search needs)
+    (λ c κs. search needs)
     returns
     returns-2
     returns-3)

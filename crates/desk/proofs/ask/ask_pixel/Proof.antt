@@ -7,41 +7,8 @@ use borrow.Author.Needs.{needs}
 use Rattle.desk.proofs.ask.ask_pixel.Statement.{statement}
 use Rattle.desk.proofs.ask.ask_pixel.Tie as tie
 
-enum-told : tie.Need-enum-told
-enum-told c = search needs
-
-forward-pixel-requires : tie.Need-forward-pixel-requires
-forward-pixel-requires c κs = search needs
-
-of-pixel-requires : tie.Need-of-pixel-requires
-of-pixel-requires c κs = search needs
-
-enum-told-2 : tie.Need-enum-told-2
-enum-told-2 c = search needs
-
-reverse-pixel-requires : tie.Need-reverse-pixel-requires
-reverse-pixel-requires c κs = search needs
-
-of-pixel-requires-2 : tie.Need-of-pixel-requires-2
-of-pixel-requires-2 c κs = search needs
-
-enum-told-3 : tie.Need-enum-told-3
-enum-told-3 c = search needs
-
-meter-pixel-requires : tie.Need-meter-pixel-requires
-meter-pixel-requires c κs = search needs
-
 of-levels-requires : tie.Need-of-levels-requires
 of-levels-requires c κs = levels-numbers _ _ (omega arith) (omega arith) (omega arith) _ (sym (c .meter-pixel .ensures))
-
-enum-told-4 : tie.Need-enum-told-4
-enum-told-4 c = search needs
-
-source-pixel-requires : tie.Need-source-pixel-requires
-source-pixel-requires c κs = search needs
-
-of-source-requires : tie.Need-of-source-requires
-of-source-requires c κs = search needs
 
 returns : tie.Need-returns
 returns c = rw (c .before .before .enum-told .given .1) (c .of-pixel .ensures ∙ ap ofPixel (c .before .forward-pixel .ensures))
@@ -59,18 +26,18 @@ pub ask-pixel-spec : {M : Type 1} → statement M
 ask-pixel-spec =
     tie.close
     (tie.spec
-    enum-told
-    forward-pixel-requires
-    of-pixel-requires
-    enum-told-2
-    reverse-pixel-requires
-    of-pixel-requires-2
-    enum-told-3
-    meter-pixel-requires
+    (λ c. search needs)
+    (λ c κs. search needs)
+    (λ c κs. search needs)
+    (λ c. search needs)
+    (λ c κs. search needs)
+    (λ c κs. search needs)
+    (λ c. search needs)
+    (λ c κs. search needs)
     of-levels-requires
-    enum-told-4
-    source-pixel-requires
-    of-source-requires
+    (λ c. search needs)
+    (λ c κs. search needs)
+    (λ c κs. search needs)
     returns
     returns-2
     returns-3

@@ -7,9 +7,6 @@ use borrow.Author.Needs.{needs}
 use Rattle.desk.proofs.ask.ask_sample.Statement.{statement}
 use Rattle.desk.proofs.ask.ask_sample.Tie as tie
 
-meter-sample-requires : tie.Need-meter-sample-requires
-meter-sample-requires c κs = search needs
-
 of-reading-requires : tie.Need-of-reading-requires
 of-reading-requires c κs = reading-number _ _ _ (omega arith) _ (sym (c .meter-sample .ensures))
 
@@ -17,4 +14,4 @@ returns : tie.Need-returns
 returns c = c .of-reading .ensures ∙ ap ofReading (c .before .meter-sample .ensures)
 
 pub ask-sample-spec : {M : Type 1} → statement M
-ask-sample-spec = tie.close (tie.spec meter-sample-requires of-reading-requires returns)
+ask-sample-spec = tie.close (tie.spec (λ c κs. search needs) of-reading-requires returns)

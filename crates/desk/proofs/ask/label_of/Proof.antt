@@ -3,24 +3,6 @@ use borrow.Author.Needs.{needs}
 use Rattle.desk.proofs.ask.label_of.Statement.{statement}
 use Rattle.desk.proofs.ask.label_of.Tie as tie
 
-enum-told : tie.Need-enum-told
-enum-told c = search needs
-
-primaries-label-requires : tie.Need-primaries-label-requires
-primaries-label-requires c κs = search needs
-
-enum-told-2 : tie.Need-enum-told-2
-enum-told-2 c = search needs
-
-transfer-label-requires : tie.Need-transfer-label-requires
-transfer-label-requires c κs = search needs
-
-enum-told-3 : tie.Need-enum-told-3
-enum-told-3 c = search needs
-
-matrix-label-requires : tie.Need-matrix-label-requires
-matrix-label-requires c κs = search needs
-
 returns : tie.Need-returns
 returns c = rw (c .before .enum-told .given .1) (c .primaries-label .ensures)
 
@@ -34,12 +16,12 @@ pub label-of-spec : {M : Type 1} → statement M
 label-of-spec =
     tie.close
     (tie.spec
-    enum-told
-    primaries-label-requires
-    enum-told-2
-    transfer-label-requires
-    enum-told-3
-    matrix-label-requires
+    (λ c. search needs)
+    (λ c κs. search needs)
+    (λ c. search needs)
+    (λ c κs. search needs)
+    (λ c. search needs)
+    (λ c κs. search needs)
     returns
     returns-2
     returns-3)

@@ -5,9 +5,6 @@ use borrow.Author.Needs.{needs}
 use Rattle.desk.proofs.ask.of_levels.Statement.{statement}
 use Rattle.desk.proofs.ask.of_levels.Tie as tie
 
-enum-known-a : tie.Need-enum-known-a
-enum-known-a c = search needs
-
 float-to-bits-t5 : tie.Need-float-to-bits-t5
 float-to-bits-t5 c = subst NumbersIn (c .before .before .a .given .1) (c .before .before .before .before .pre) .0
 
@@ -16,9 +13,6 @@ float-to-bits-t6 c = subst NumbersIn (c .before .before .before .a .given .1) (c
 
 float-to-bits-t7 : tie.Need-float-to-bits-t7
 float-to-bits-t7 c = subst NumbersIn (c .before .before .before .before .a .given .1) (c .before .before .before .before .before .before .pre) .1 .1
-
-enum-known-a-2 : tie.Need-enum-known-a-2
-enum-known-a-2 c = search needs
 
 returns : tie.Need-returns
 returns c = rw (c .before .before .before .before .a .given .1)
@@ -30,10 +24,10 @@ pub of-levels-spec : {M : Type 1} → statement M
 of-levels-spec =
     tie.close
     (tie.spec
-    enum-known-a
+    (λ c. search needs)
     float-to-bits-t5
     float-to-bits-t6
     float-to-bits-t7
-    enum-known-a-2
+    (λ c. search needs)
     returns
     returns-2)

@@ -5,14 +5,8 @@ use borrow.Author.Needs.{needs}
 use Rattle.desk.proofs.ask.of_reading.Statement.{statement}
 use Rattle.desk.proofs.ask.of_reading.Tie as tie
 
-enum-known-a : tie.Need-enum-known-a
-enum-known-a c = search needs
-
 float-to-bits-t5 : tie.Need-float-to-bits-t5
 float-to-bits-t5 c = subst NumberIn (c .before .a .given .1) (c .before .before .before .pre)
-
-enum-known-a-2 : tie.Need-enum-known-a-2
-enum-known-a-2 c = search needs
 
 returns : tie.Need-returns
 returns c = rw (c .before .a .given .1)
@@ -22,4 +16,4 @@ returns-2 c = rw (c .before .a2 .given .1)
 
 pub of-reading-spec : {M : Type 1} → statement M
 of-reading-spec =
-    tie.close (tie.spec enum-known-a float-to-bits-t5 enum-known-a-2 returns returns-2)
+    tie.close (tie.spec (λ c. search needs) float-to-bits-t5 (λ c. search needs) returns returns-2)

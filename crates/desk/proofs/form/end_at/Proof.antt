@@ -3,9 +3,6 @@ use borrow.Author.Needs.{needs}
 use Rattle.desk.proofs.form.end_at.Statement.{statement}
 use Rattle.desk.proofs.form.end_at.Tie as tie
 
-has-word-requires : tie.Need-has-word-requires
-has-word-requires c κs = search needs
-
 returns : tie.Need-returns
 returns c = rw (← c .before .has-word .ensures, c .if1 .taken)
 
@@ -13,4 +10,4 @@ returns-2 : tie.Need-returns-2
 returns-2 c = rw (← c .before .has-word .ensures, c .if1 .left)
 
 pub end-at-spec : {M : Type 1} → statement M
-end-at-spec = tie.close (tie.spec has-word-requires returns returns-2)
+end-at-spec = tie.close (tie.spec (λ c κs. search needs) returns returns-2)

@@ -5,18 +5,6 @@ use borrow.Author.Needs.{needs}
 use Rattle.desk.proofs.form.label_form.Statement.{statement}
 use Rattle.desk.proofs.form.label_form.Tie as tie
 
-code-at-requires : tie.Need-code-at-requires
-code-at-requires c κs = search needs
-
-add-end-at : tie.Need-add-end-at
-add-end-at c = search needs
-
-end-at-requires : tie.Need-end-at-requires
-end-at-requires c κs = search needs
-
-earlier-requires : tie.Need-earlier-requires
-earlier-requires c κs = search needs
-
 returns : tie.Need-returns
 unfolding labelForm
 returns c = rw (← c .before .before .before .code-at .ensures, ← c .before .before .end-at .ensures, ← c .before .earlier .ensures, eq-eqb _ _ (c .if1 .taken))
@@ -33,10 +21,10 @@ pub label-form-spec : {M : Type 1} → statement M
 label-form-spec =
     tie.close
     (tie.spec
-    code-at-requires
-    add-end-at
-    end-at-requires
-    earlier-requires
+    (λ c κs. search needs)
+    (λ c. search needs)
+    (λ c κs. search needs)
+    (λ c κs. search needs)
     returns
     returns-2
     returns-3)

@@ -5,27 +5,9 @@ use borrow.Author.Needs.{needs}
 use Rattle.desk.proofs.form.pixel_form.Statement.{statement}
 use Rattle.desk.proofs.form.pixel_form.Tie as tie
 
-setting-at-requires : tie.Need-setting-at-requires
-setting-at-requires c κs = search needs
-
-pixel-at-requires : tie.Need-pixel-at-requires
-pixel-at-requires c κs = search needs
-
-earlier-requires : tie.Need-earlier-requires
-earlier-requires c κs = search needs
-
-end-at-requires : tie.Need-end-at-requires
-end-at-requires c κs = search needs
-
-earlier-requires-2 : tie.Need-earlier-requires-2
-earlier-requires-2 c κs = search needs
-
 returns : tie.Need-returns
 unfolding pixelForm
 returns c = rw (← c .before .before .before .before .before .before .before .setting-at .ensures, ← c .before .before .before .before .before .before .pixel-at .ensures, ← c .before .before .before .before .before .earlier .ensures, ← c .before .before .before .before .end-at .ensures, ← c .before .before .before .earlier2 .ensures, eq-eqb _ _ (c .before .before .if1 .taken))
-
-expected-at-requires : tie.Need-expected-at-requires
-expected-at-requires c κs = search needs
 
 returns-2 : tie.Need-returns-2
 unfolding pixelForm
@@ -35,11 +17,11 @@ pub pixel-form-spec : {M : Type 1} → statement M
 pixel-form-spec =
     tie.close
     (tie.spec
-    setting-at-requires
-    pixel-at-requires
-    earlier-requires
-    end-at-requires
-    earlier-requires-2
+    (λ c κs. search needs)
+    (λ c κs. search needs)
+    (λ c κs. search needs)
+    (λ c κs. search needs)
+    (λ c κs. search needs)
     returns
-    expected-at-requires
+    (λ c κs. search needs)
     returns-2)

@@ -4,12 +4,6 @@ use borrow.Author.Needs.{needs}
 use Rattle.desk.proofs.form.range_at.Statement.{statement}
 use Rattle.desk.proofs.form.range_at.Tie as tie
 
-slice-aggregate-place-at : tie.Need-slice-aggregate-place-at
-slice-aggregate-place-at c = search needs
-
-place-at-requires : tie.Need-place-at-requires
-place-at-requires c κs = search needs
-
 returns : tie.Need-returns
 returns c = rw (← c .before .place-at .ensures, lt-ltb _ _ (c .if1 .taken))
 
@@ -17,4 +11,4 @@ returns-2 : tie.Need-returns-2
 returns-2 c = rw (← c .before .place-at .ensures, le-ltb _ _ (c .if1 .left))
 
 pub range-at-spec : {M : Type 1} → statement M
-range-at-spec = tie.close (tie.spec slice-aggregate-place-at place-at-requires returns returns-2)
+range-at-spec = tie.close (tie.spec (λ c. search needs) (λ c κs. search needs) returns returns-2)

@@ -3,15 +3,6 @@ use borrow.Author.Needs.{needs}
 use Rattle.desk.proofs.form.sample_at.Statement.{statement}
 use Rattle.desk.proofs.form.sample_at.Tie as tie
 
-number-at-requires : tie.Need-number-at-requires
-number-at-requires c κs = search needs
-
-enum-known-value : tie.Need-enum-known-value
-enum-known-value c = search needs
-
-enum-told : tie.Need-enum-told
-enum-told c = search needs
-
 returns : tie.Need-returns
 returns c = rw (← c .before .before .before .number-at .ensures, c .before .value .given .1)
 
@@ -20,4 +11,4 @@ returns-2 c = rw (← c .before .before .number-at .ensures, c .enum-told .given
 
 pub sample-at-spec : {M : Type 1} → statement M
 sample-at-spec =
-    tie.close (tie.spec number-at-requires enum-known-value enum-told returns returns-2)
+    tie.close (tie.spec (λ c κs. search needs) (λ c. search needs) (λ c. search needs) returns returns-2)

@@ -15,24 +15,6 @@ last-plane Y = omega arith
 last-plane Cb = omega arith
 last-plane Cr = omega arith
 
-setting-at-requires : tie.Need-setting-at-requires
-setting-at-requires c κs = search needs
-
-sample-at-requires : tie.Need-sample-at-requires
-sample-at-requires c κs = search needs
-
-earlier-requires : tie.Need-earlier-requires
-earlier-requires c κs = search needs
-
-add-end-at : tie.Need-add-end-at
-add-end-at c = search needs
-
-end-at-requires : tie.Need-end-at-requires
-end-at-requires c κs = search needs
-
-earlier-requires-2 : tie.Need-earlier-requires-2
-earlier-requires-2 c κs = search needs
-
 returns : tie.Need-returns
 unfolding sampleForm
 returns c = rw (← c .before .before .before .before .before .before .setting-at .ensures, ← c .before .before .before .before .before .sample-at .ensures, ← c .before .before .before .before .earlier .ensures, ← c .before .before .before .end-at .ensures, ← c .before .before .earlier2 .ensures, eq-eqb _ _ (c .before .if1 .taken))
@@ -40,12 +22,6 @@ returns c = rw (← c .before .before .before .before .before .before .setting-a
 returns-2 : tie.Need-returns-2
 unfolding sampleForm
 returns-2 c = rw (← c .before .before .before .before .before .before .setting-at .ensures, ← c .before .before .before .before .before .sample-at .ensures, ← c .before .before .before .before .earlier .ensures, ← c .before .before .before .end-at .ensures, ← c .before .before .earlier2 .ensures, ne-eqb _ _ (c .before .if1 .left), lt-ltb _ _ (c .if2 .taken))
-
-add-expected : tie.Need-add-expected
-add-expected c = search needs
-
-plane-of-requires : tie.Need-plane-of-requires
-plane-of-requires c κs = search needs
 
 add-expected-2 : tie.Need-add-expected-2
 add-expected-2 c = let h = last-plane (c .before .before .before .before .before .before .before .before .before .before .args .kind) in omega (arith, c .plane-of .ensures)
@@ -62,16 +38,16 @@ pub sample-form-spec : {M : Type 1} → statement M
 sample-form-spec =
     tie.close
     (tie.spec
-    setting-at-requires
-    sample-at-requires
-    earlier-requires
-    add-end-at
-    end-at-requires
-    earlier-requires-2
+    (λ c κs. search needs)
+    (λ c κs. search needs)
+    (λ c κs. search needs)
+    (λ c. search needs)
+    (λ c κs. search needs)
+    (λ c κs. search needs)
     returns
     returns-2
-    add-expected
-    plane-of-requires
+    (λ c. search needs)
+    (λ c κs. search needs)
     add-expected-2
     returns-3
     returns-4)

@@ -4,8 +4,8 @@ use Prim.Native.Nat.{_-_}
 use native.Mathlib.Omega.{arith}
 use borrow.Author.Needs.{needs}
 use lib.ListN.{length}
-use Rattle.plane.specs.Sizes.{sideOf}
-use Rattle.plane.specs.declared.size.Side.{Side}
+use Rattle.planes.specs.Sizes.{sideOf}
+use Rattle.planes.specs.declared.size.Side.{Side}
 use Rattle.pixel.specs.Pixel.{InsideSource}
 use Rattle.picture.specs.Picture.{Picture, picture}
 use Rattle.frame.specs.Frame.{sourceOf, outputOf}
@@ -40,17 +40,8 @@ turn c =
       starts-to = c .row-start2 .ensures;
     }
 
-prepare-requires : tie.Need-prepare-requires Inv-loop μ-loop
-prepare-requires c κs = search needs
-
 loop-holds : tie.Need-loop-holds Inv-loop μ-loop
 loop-holds c = painting-none _ _ _ _ _ _ _ refl refl refl
-
-row-start-requires : tie.Need-row-start-requires Inv-loop μ-loop
-row-start-requires c κs = search needs
-
-row-start-requires-2 : tie.Need-row-start-requires-2 Inv-loop μ-loop
-row-start-requires-2 c κs = search needs
 
 zero-gap-requires : tie.Need-zero-gap-requires Inv-loop μ-loop
 zero-gap-requires c κs = let k = gap-long (turn (c .before .before .before)) in omega arith
@@ -84,15 +75,6 @@ loop-again c =
 zero-rest-requires : tie.Need-zero-rest-requires Inv-loop μ-loop
 zero-rest-requires c κs = let k = rest-long (c .before .before .before .before .before .before .before .before .before .before .before .before .pre .1 .1 .0) (c .before .before .before .before .loop .inv) in omega arith
 
-same-length : tie.Need-same-length Inv-loop μ-loop
-same-length c = search needs
-
-same-length-2 : tie.Need-same-length-2 Inv-loop μ-loop
-same-length-2 c = search needs
-
-same-length-3 : tie.Need-same-length-3 Inv-loop μ-loop
-same-length-3 c = search needs
-
 returns : tie.Need-returns Inv-loop μ-loop
 returns c =
     let e = c .before .before .before .before .before .before .zero-rest .ensures in
@@ -104,10 +86,10 @@ paint-spec =
     (tie.spec
     Inv-loop
     μ-loop
-    prepare-requires
+    (λ c κs. search needs)
     loop-holds
-    row-start-requires
-    row-start-requires-2
+    (λ c κs. search needs)
+    (λ c κs. search needs)
     zero-gap-requires
     paint-row-requires
     add-done
@@ -115,7 +97,7 @@ paint-spec =
     loop-less
     loop-again
     zero-rest-requires
-    same-length
-    same-length-2
-    same-length-3
+    (λ c. search needs)
+    (λ c. search needs)
+    (λ c. search needs)
     returns)

@@ -4,9 +4,9 @@ use Prim.Native.Nat.{_+_, _*_}
 use native.Mathlib.Omega.{arith}
 use lib.IntN.{pos, _+ℤ_}
 use borrow.Author.Needs.{needs}
-use Rattle.whole.specs.Whole.{round, clip}
-use Rattle.whole.proofs.Difference.{parts, parts-sub}
-use Rattle.whole.proofs.Closers.{same}
+use Rattle.rounding.specs.Rounding.{round, clip}
+use Rattle.rounding.proofs.Difference.{parts, parts-sub}
+use Rattle.rounding.proofs.Closers.{same}
 use Rattle.levels.specs.Lines.{lineAt}
 use Rattle.levels.proofs.Bounds.{Terms, terms}
 use Rattle.levels.proofs.by_lines.sample_by.Statement.{statement}
@@ -14,15 +14,6 @@ use Rattle.levels.proofs.by_lines.sample_by.Tie as tie
 
 known : (s : tie.Start) → Terms (s .args .l .row) (s .args .p .p0) (s .args .p .p1) (s .args .p .p2)
 known s = terms (s .args .l .row) (s .pre .1 .1 .p0-in) (s .pre .1 .1 .p1-in) (s .pre .1 .1 .p2-in)
-
-cast-x : tie.Need-cast-x
-cast-x c = search needs
-
-cast-y : tie.Need-cast-y
-cast-y c = search needs
-
-cast-z : tie.Need-cast-z
-cast-z c = search needs
 
 mul-plus : tie.Need-mul-plus
 mul-plus c = let k = known (c .before .before .before .before) in omega arith
@@ -89,4 +80,4 @@ returns c =
     (omega arith))
 
 pub sample-by-spec : {M : Type 1} → statement M
-sample-by-spec = tie.close (tie.spec cast-x cast-y cast-z mul-plus mul-plus-2 add-plus mul-plus-3 add-plus-2 add-plus-3 mul-minus mul-minus-2 add-minus mul-minus-3 add-minus-2 add-minus-3 round-clip-by-requires returns)
+sample-by-spec = tie.close (tie.spec (λ c. search needs) (λ c. search needs) (λ c. search needs) mul-plus mul-plus-2 add-plus mul-plus-3 add-plus-2 add-plus-3 mul-minus mul-minus-2 add-minus mul-minus-3 add-minus-2 add-minus-3 round-clip-by-requires returns)

@@ -8,9 +8,6 @@ use Rattle.levels.proofs.prepared.line_of.Tie as tie
 known : (s : tie.Start) → LineBounds (s .args .w) (s .args .from) (s .args .to)
 known s = line-bounds (s .pre)
 
-spread-requires : tie.Need-spread-requires
-spread-requires c κs = search needs
-
 mul-up : tie.Need-mul-up
 mul-up c = rw (c .spread .ensures) (let k = known (c .before .before .before) in omega arith)
 
@@ -51,4 +48,4 @@ returns : tie.Need-returns
 returns c = rw (c .spread .ensures)
 
 pub line-of-spec : {M : Type 1} → statement M
-line-of-spec = tie.close (tie.spec spread-requires mul-up mul-up-2 add-up mul-up-3 add-up-2 mul-up-4 add-up-3 mul-down mul-down-2 add-down mul-down-3 add-down-2 returns)
+line-of-spec = tie.close (tie.spec (λ c κs. search needs) mul-up mul-up-2 add-up mul-up-3 add-up-2 mul-up-4 add-up-3 mul-down mul-down-2 add-down mul-down-3 add-down-2 returns)

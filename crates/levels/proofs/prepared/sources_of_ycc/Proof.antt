@@ -8,8 +8,5 @@ use Rattle.levels.proofs.prepared.sources_of_ycc.Tie as tie
 mul-common : tie.Need-mul-common
 mul-common c = omega (arith, mul-le-mul (c .pre .1 .times-in) (c .pre .0 .times-in))
 
-returns : tie.Need-returns
-returns c = search needs
-
 pub sources-of-ycc-spec : {M : Type 1} → statement M
-sources-of-ycc-spec = tie.close (tie.spec mul-common returns)
+sources-of-ycc-spec = tie.close (tie.spec mul-common (λ c. search needs))

@@ -44,11 +44,5 @@ mul-down2 c = let k = known (c .before .before) in omega arith
 mul-down2-2 : tie.Need-mul-down2-2
 mul-down2-2 c = let k = known (c .before .before) in omega arith
 
-mul-over : tie.Need-mul-over
-mul-over c = search needs
-
-returns : tie.Need-returns
-returns c = search needs
-
 pub spread-spec : {M : Type 1} → statement M
-spread-spec = tie.close (tie.spec mul-up0 mul-up0-2 mul-up1 mul-up1-2 mul-up2 mul-up2-2 mul-down0 mul-down0-2 mul-down1 mul-down1-2 mul-down2 mul-down2-2 mul-over returns)
+spread-spec = tie.close (tie.spec mul-up0 mul-up0-2 mul-up1 mul-up1-2 mul-up2 mul-up2-2 mul-down0 mul-down0-2 mul-down1 mul-down1-2 mul-down2 mul-down2-2 (λ c. search needs) (λ c. search needs))

@@ -3,12 +3,6 @@ use borrow.Author.Needs.{needs}
 use Rattle.levels.proofs.prepared.target_of.Statement.{statement}
 use Rattle.levels.proofs.prepared.target_of.Tie as tie
 
-largest-requires : tie.Need-largest-requires
-largest-requires c κs = search needs
-
-cast-top : tie.Need-cast-top
-cast-top c = search needs
-
 returns : tie.Need-returns
 returns c = rw (c .if1 .taken, c .before .largest .ensures)
 
@@ -16,4 +10,4 @@ returns-2 : tie.Need-returns-2
 returns-2 c = rw (c .if1 .left, c .before .largest .ensures)
 
 pub target-of-spec : {M : Type 1} → statement M
-target-of-spec = tie.close (tie.spec largest-requires cast-top returns returns-2)
+target-of-spec = tie.close (tie.spec (λ c κs. search needs) (λ c. search needs) returns returns-2)

@@ -12,26 +12,11 @@ known s = g-served (s .args .k) (s .pre)
 mul-over : tie.Need-mul-over
 mul-over c = let k = known c in omega arith
 
-mul-blue : tie.Need-mul-blue
-mul-blue c = search needs
-
-add-blue : tie.Need-add-blue
-add-blue c = search needs
-
 mul-blue-2 : tie.Need-mul-blue-2
 mul-blue-2 c = let k = known c in omega arith
-
-mul-red : tie.Need-mul-red
-mul-red c = search needs
-
-add-red : tie.Need-add-red
-add-red c = search needs
 
 mul-red-2 : tie.Need-mul-red-2
 mul-red-2 c = let k = known c in omega arith
 
-returns : tie.Need-returns
-returns c = search needs
-
 pub row-g-spec : {M : Type 1} → statement M
-row-g-spec = tie.close (tie.spec mul-over mul-blue add-blue mul-blue-2 mul-red add-red mul-red-2 returns)
+row-g-spec = tie.close (tie.spec mul-over (λ c. search needs) (λ c. search needs) mul-blue-2 (λ c. search needs) (λ c. search needs) mul-red-2 (λ c. search needs))

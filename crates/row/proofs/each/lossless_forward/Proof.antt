@@ -19,38 +19,20 @@ abbrev μ-loop : tie.MeasureT-loop
 loop-holds : tie.Need-loop-holds Inv-loop μ-loop
 loop-holds c = (refl, written-none (c .before .before .before .before .before .before .pre .1 .0))
 
-pixel-in-requires : tie.Need-pixel-in-requires Inv-loop μ-loop
-pixel-in-requires c κs = search needs
-
 lossless-forward-requires : tie.Need-lossless-forward-requires Inv-loop μ-loop
 lossless-forward-requires c κs =
     let s = c .before .before .before .before .before .before .before .before .before in
     let inside = s .pre .1 .1 (c .before .before .loop .i) (omega arith) in
     (s .pre .0, subst (InsideRGB (s .args .d)) (sym (c .pixel-in .ensures)) inside)
 
-put-requires : tie.Need-put-requires Inv-loop μ-loop
-put-requires c κs = search needs
-
 add-i : tie.Need-add-i Inv-loop μ-loop
 add-i c = omega (arith, c .before .before .before .before .before .before .before .before .before .before .before .before)
-
-loop-less : tie.Need-loop-less Inv-loop μ-loop
-loop-less c = search needs
 
 loop-again : tie.Need-loop-again Inv-loop μ-loop
 loop-again c =
     let put = c .before .before .before .before .before .before .put .ensures in
     let made = c .before .before .before .before .before .before .before .before .before .before in
     (refl, written-more (made .before .before .before .loop .inv .1) (omega arith) (made .before .pixel-in .ensures) (made .lossless-forward .ensures) (put .0) (put .1 .0) (put .1 .1))
-
-same-length : tie.Need-same-length Inv-loop μ-loop
-same-length c = search needs
-
-same-length-2 : tie.Need-same-length-2 Inv-loop μ-loop
-same-length-2 c = search needs
-
-same-length-3 : tie.Need-same-length-3 Inv-loop μ-loop
-same-length-3 c = search needs
 
 returns : tie.Need-returns Inv-loop μ-loop
 returns c = written-all (c .before .loop .inv .1) (omega arith)
@@ -62,13 +44,13 @@ lossless-forward-spec =
     Inv-loop
     μ-loop
     loop-holds
-    pixel-in-requires
+    (λ c κs. search needs)
     lossless-forward-requires
-    put-requires
+    (λ c κs. search needs)
     add-i
-    loop-less
+    (λ c. search needs)
     loop-again
-    same-length
-    same-length-2
-    same-length-3
+    (λ c. search needs)
+    (λ c. search needs)
+    (λ c. search needs)
     returns)

@@ -18,35 +18,14 @@ abbrev μ-loop : tie.MeasureT-loop
 loop-holds : tie.Need-loop-holds Inv-loop μ-loop
 loop-holds c = (refl, written-none (c .before .before .before .before .before .before .pre .1))
 
-pixel-in-requires : tie.Need-pixel-in-requires Inv-loop μ-loop
-pixel-in-requires c κs = search needs
-
-lossy-forward-requires : tie.Need-lossy-forward-requires Inv-loop μ-loop
-lossy-forward-requires c κs = search needs
-
-put-requires : tie.Need-put-requires Inv-loop μ-loop
-put-requires c κs = search needs
-
 add-i : tie.Need-add-i Inv-loop μ-loop
 add-i c = omega (arith, c .before .before .before .before .before .before .before .before .before .before .before .before)
-
-loop-less : tie.Need-loop-less Inv-loop μ-loop
-loop-less c = search needs
 
 loop-again : tie.Need-loop-again Inv-loop μ-loop
 loop-again c =
     let put = c .before .before .before .before .before .before .put .ensures in
     let made = c .before .before .before .before .before .before .before .before .before .before in
     (refl, written-more (made .before .before .before .loop .inv .1) (omega arith) (made .before .pixel-in .ensures) (made .lossy-forward .ensures) (put .0) (put .1 .0) (put .1 .1))
-
-same-length : tie.Need-same-length Inv-loop μ-loop
-same-length c = search needs
-
-same-length-2 : tie.Need-same-length-2 Inv-loop μ-loop
-same-length-2 c = search needs
-
-same-length-3 : tie.Need-same-length-3 Inv-loop μ-loop
-same-length-3 c = search needs
 
 returns : tie.Need-returns Inv-loop μ-loop
 returns c = written-all (c .before .loop .inv .1) (omega arith)
@@ -58,13 +37,13 @@ lossy-forward-spec =
     Inv-loop
     μ-loop
     loop-holds
-    pixel-in-requires
-    lossy-forward-requires
-    put-requires
+    (λ c κs. search needs)
+    (λ c κs. search needs)
+    (λ c κs. search needs)
     add-i
-    loop-less
+    (λ c. search needs)
     loop-again
-    same-length
-    same-length-2
-    same-length-3
+    (λ c. search needs)
+    (λ c. search needs)
+    (λ c. search needs)
     returns)

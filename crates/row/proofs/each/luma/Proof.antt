@@ -21,15 +21,6 @@ luma-plane-requires-3 c κs =
     let a = p .1 .0 in
     (p .0 .third, (a .a1-long, (a .a2-long, (a .b2-long, p .1 .1))))
 
-same-length : tie.Need-same-length
-same-length c = search needs
-
-same-length-2 : tie.Need-same-length-2
-same-length-2 c = search needs
-
-same-length-3 : tie.Need-same-length-3
-same-length-3 c = search needs
-
 returns : tie.Need-returns
 returns c = (c .before .before .before .before .before .before .before .before .before .before .luma-plane .ensures, (c .before .before .before .before .before .before .luma-plane2 .ensures, c .before .before .luma-plane3 .ensures))
 
@@ -40,7 +31,7 @@ luma-spec =
     luma-plane-requires
     luma-plane-requires-2
     luma-plane-requires-3
-    same-length
-    same-length-2
-    same-length-3
+    (λ c. search needs)
+    (λ c. search needs)
+    (λ c. search needs)
     returns)

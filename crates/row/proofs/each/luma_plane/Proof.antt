@@ -6,7 +6,7 @@ use borrow.Author.Needs.{needs}
 use lib.ListN.{length}
 use Rattle.levels.specs.Luma.{SamplesServed}
 use Rattle.levels.specs.Lines.{lineSample}
-use Rattle.plane.proofs.Tables.{Filled, filled-none, filled-more, filled-all}
+use Rattle.planes.proofs.Tables.{Filled, filled-none, filled-more, filled-all}
 use Rattle.row.specs.Row.{pixelIn}
 use Rattle.row.proofs.each.luma_plane.Statement.{statement}
 use Rattle.row.proofs.each.luma_plane.Tie as tie
@@ -24,35 +24,17 @@ divisor-of-requires c κs = c .before .before .before .before .pre .0
 loop-holds : tie.Need-loop-holds Inv-loop μ-loop
 loop-holds c = (omega arith, (refl, filled-none _ _ _ (omega arith)))
 
-pixel-in-requires : tie.Need-pixel-in-requires Inv-loop μ-loop
-pixel-in-requires c κs = search needs
-
 sample-by-requires : tie.Need-sample-by-requires Inv-loop μ-loop
 sample-by-requires c κs =
     let pre = c .before .before .before .before .before .before .before .before .pre in
     let inside = pre .1 .1 .1 .1 (c .before .before .loop .i) (omega arith) in
     (pre .0, (c .before .before .before .divisor-of .ensures, subst SamplesServed (sym (c .pixel-in .ensures)) inside))
 
-mul-b : tie.Need-mul-b Inv-loop μ-loop
-mul-b c = search needs
-
-slice-write-b : tie.Need-slice-write-b Inv-loop μ-loop
-slice-write-b c = search needs
-
-add-i : tie.Need-add-i Inv-loop μ-loop
-add-i c = search needs
-
-loop-less : tie.Need-loop-less Inv-loop μ-loop
-loop-less c = search needs
-
 loop-again : tie.Need-loop-again Inv-loop μ-loop
 loop-again c =
     let l = c .before .before .before .loop in
     let line = c .before .before .before .before .before .before .before .before .before .args .line in
     (omega arith, (refl, filled-more _ _ _ _ _ (omega arith) (c .sample-by .ensures ∙ ap (lineSample line) (c .before .pixel-in .ensures)) (l .inv .1 .1)))
-
-same-length : tie.Need-same-length Inv-loop μ-loop
-same-length c = search needs
 
 returns : tie.Need-returns Inv-loop μ-loop
 returns c = filled-all _ _ _ (c .before .loop .i) (omega arith) (c .before .loop .inv .1 .1)
@@ -65,12 +47,12 @@ luma-plane-spec =
     μ-loop
     divisor-of-requires
     loop-holds
-    pixel-in-requires
+    (λ c κs. search needs)
     sample-by-requires
-    mul-b
-    slice-write-b
-    add-i
-    loop-less
+    (λ c. search needs)
+    (λ c. search needs)
+    (λ c. search needs)
+    (λ c. search needs)
     loop-again
-    same-length
+    (λ c. search needs)
     returns)

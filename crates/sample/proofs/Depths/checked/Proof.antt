@@ -44,27 +44,9 @@ chroma-yes n d e =
     let t = chose-first (isDepth n) _ _ _ e (λ f. true≢false cc) in
     (t .0, (let q = t .1 in cc))
 
-checked-requires : tie.Need-checked-requires
-checked-requires c κs = search needs
-
-enum-known-rgb : tie.Need-enum-known-rgb
-enum-known-rgb c = search needs
-
-enum-told : tie.Need-enum-told
-enum-told c = search needs
-
 returns : tie.Need-returns
 unfolding depthsChecked areDepths
 returns c = rw (rgb-no _ (sym (c .before .before .checked .ensures) ∙ c .enum-told .given .1))
-
-checked-requires-2 : tie.Need-checked-requires-2
-checked-requires-2 c κs = search needs
-
-enum-known-luma : tie.Need-enum-known-luma
-enum-known-luma c = search needs
-
-enum-told-2 : tie.Need-enum-told-2
-enum-told-2 c = search needs
 
 -- what the first check, and the second, have told where they were passed
 first : (c : tie.After-rgb) → (isDepth (c .before .before .before .args .rgb) ≡ true) × (rgbDepth (c .before .before .before .args .rgb) ≡ c .rgb .given .0 .0)
@@ -76,15 +58,6 @@ second c = luma-yes _ _ (sym (c .before .before .checked2 .ensures) ∙ c .luma 
 returns-2 : tie.Need-returns-2
 unfolding depthsChecked areDepths
 returns-2 c = rw (first (c .before .before .before .before) .0, luma-no _ (sym (c .before .before .checked2 .ensures) ∙ c .enum-told2 .given .1))
-
-checked-requires-3 : tie.Need-checked-requires-3
-checked-requires-3 c κs = search needs
-
-enum-known-chroma : tie.Need-enum-known-chroma
-enum-known-chroma c = search needs
-
-enum-told-3 : tie.Need-enum-told-3
-enum-told-3 c = search needs
 
 returns-3 : tie.Need-returns-3
 unfolding depthsChecked areDepths
@@ -107,16 +80,16 @@ pub checked-spec : {M : Type 1} → statement M
 checked-spec =
     tie.close
     (tie.spec
-    checked-requires
-    enum-known-rgb
-    enum-told
+    (λ c κs. search needs)
+    (λ c. search needs)
+    (λ c. search needs)
     returns
-    checked-requires-2
-    enum-known-luma
-    enum-told-2
+    (λ c κs. search needs)
+    (λ c. search needs)
+    (λ c. search needs)
     returns-2
-    checked-requires-3
-    enum-known-chroma
-    enum-told-3
+    (λ c κs. search needs)
+    (λ c. search needs)
+    (λ c. search needs)
     returns-3
     returns-4)

@@ -10,21 +10,6 @@ use Rattle.setting.proofs.label.matrix_label.Tie as tie
 met : {m n k : Matrix} → m ≡ n → m ≡ k → labelOf k ≡ labelOf n
 met e f = ap labelOf (sym f ∙ e)
 
-matrix-of-requires : tie.Need-matrix-of-requires
-matrix-of-requires c κs = search needs
-
-enum-told : tie.Need-enum-told
-enum-told c = search needs
-
-enum-told-2 : tie.Need-enum-told-2
-enum-told-2 c = search needs
-
-enum-told-3 : tie.Need-enum-told-3
-enum-told-3 c = search needs
-
-enum-told-4 : tie.Need-enum-told-4
-enum-told-4 c = search needs
-
 returns : tie.Need-returns
 returns c = met (c .before .before .matrix-of .ensures) (c .enum-told .given .1)
 
@@ -41,11 +26,11 @@ pub matrix-label-spec : {M : Type 1} → statement M
 matrix-label-spec =
     tie.close
     (tie.spec
-    matrix-of-requires
-    enum-told
-    enum-told-2
-    enum-told-3
-    enum-told-4
+    (λ c κs. search needs)
+    (λ c. search needs)
+    (λ c. search needs)
+    (λ c. search needs)
+    (λ c. search needs)
     returns
     returns-2
     returns-3

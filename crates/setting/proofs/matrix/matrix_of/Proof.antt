@@ -10,21 +10,6 @@ use Rattle.setting.proofs.Ranges.{each}
 use Rattle.setting.proofs.matrix.matrix_of.Statement.{statement}
 use Rattle.setting.proofs.matrix.matrix_of.Tie as tie
 
-of-requires : tie.Need-of-requires
-of-requires c κs = search needs
-
-of-requires-2 : tie.Need-of-requires-2
-of-requires-2 c κs = search needs
-
-of-requires-3 : tie.Need-of-requires-3
-of-requires-3 c κs = search needs
-
-of-requires-4 : tie.Need-of-requires-4
-of-requires-4 c κs = search needs
-
-of-requires-5 : tie.Need-of-requires-5
-of-requires-5 c κs = search needs
-
 -- a code that no single number of the match names
 record Others (n : ℕ) : Type 0 where
   not-0 : n ≡ 0 → ⊥
@@ -127,11 +112,11 @@ pub matrix-of-spec : {M : Type 1} → statement M
 matrix-of-spec =
     tie.close
     (tie.spec
-    of-requires
-    of-requires-2
-    of-requires-3
-    of-requires-4
-    of-requires-5
+    (λ c κs. search needs)
+    (λ c κs. search needs)
+    (λ c κs. search needs)
+    (λ c κs. search needs)
+    (λ c κs. search needs)
     returns
     returns-2
     returns-3

@@ -23,26 +23,11 @@ module _ (call : Call) (s : Setting) (m : Matrix) (n : ℕ) (e : m ≡ matrixOf 
   by-depth : n ≡ 0 → refusalOf call s ≡ first (depthRows call (family s) s)
   by-depth f = in-turn call s ∙ rw (codes ∙ f)
 
-matrix-of-requires : tie.Need-matrix-of-requires
-matrix-of-requires c κs = search needs
-
-refused-code-requires : tie.Need-refused-code-requires
-refused-code-requires c κs = search needs
-
-plain-requires : tie.Need-plain-requires
-plain-requires c κs = search needs
-
 returns : tie.Need-returns
 returns c =
     let a = c .before .before .before .before .args in
     rw (c .plain .ensures, by-code (a .call) (a .s) _ _ (c .before .before .before .matrix-of .ensures) (c .before .before .refused-code .ensures) (c .before .if1 .taken))
     (judged-refused _ _ (c .before .if1 .taken))
-
-family-of-requires : tie.Need-family-of-requires
-family-of-requires c κs = search needs
-
-judge-depths-requires : tie.Need-judge-depths-requires
-judge-depths-requires c κs = search needs
 
 returns-2 : tie.Need-returns-2
 returns-2 c =
@@ -55,10 +40,10 @@ pub judge-spec : {M : Type 1} → statement M
 judge-spec =
     tie.close
     (tie.spec
-    matrix-of-requires
-    refused-code-requires
-    plain-requires
+    (λ c κs. search needs)
+    (λ c κs. search needs)
+    (λ c κs. search needs)
     returns
-    family-of-requires
-    judge-depths-requires
+    (λ c κs. search needs)
+    (λ c κs. search needs)
     returns-2)

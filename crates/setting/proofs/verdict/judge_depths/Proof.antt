@@ -46,29 +46,11 @@ module _ (call : Call) (f : Family) (s : Setting) where
   unfolding servedDepths
   fit d e = told-depths Fit _ d e
 
-served-depths-requires : tie.Need-served-depths-requires
-served-depths-requires c κs = search needs
-
-enum-known-depths : tie.Need-enum-known-depths
-enum-known-depths c = search needs
-
-enum-told : tie.Need-enum-told
-enum-told c = search needs
-
-plain-requires : tie.Need-plain-requires
-plain-requires c κs = search needs
-
 returns : tie.Need-returns
 unfolding judged
 returns c =
     let a = c .before .before .before .before .args in
     rw (c .plain .ensures, ← row-6 (a .call) (a .family) (a .s) (not-fit (a .call) (a .family) (a .s) (sym (c .before .before .before .served-depths .ensures) ∙ c .before .enum-told .given .1)))
-
-agree-requires : tie.Need-agree-requires
-agree-requires c κs = search needs
-
-plain-requires-2 : tie.Need-plain-requires-2
-plain-requires-2 c κs = search needs
 
 -- past row 6 the depths are those of the setting
 known : (c : tie.After-depths) → let a = c .before .before .before .args in (Fit (a .call) (a .family) (a .s) ≡ true) × (depths (a .s) ≡ c .depths .given .0 .0)
@@ -81,12 +63,6 @@ returns-2 c =
     let k = known (c .before .before .before .before) in
     let g = ap (λ d. agree (a .family) d (a .s .«rgb_full») (a .s .«ycc_full»)) (k .1) ∙ sym (c .before .before .agree .ensures) ∙ not-true _ (c .before .if1 .taken) in
     rw (c .plain2 .ensures, ← row-7 (a .call) (a .family) (a .s) (k .0) g)
-
-answers-requires : tie.Need-answers-requires
-answers-requires c κs = search needs
-
-plain-requires-3 : tie.Need-plain-requires-3
-plain-requires-3 c κs = search needs
 
 returns-3 : tie.Need-returns-3
 unfolding judged
@@ -110,15 +86,15 @@ pub judge-depths-spec : {M : Type 1} → statement M
 judge-depths-spec =
     tie.close
     (tie.spec
-    served-depths-requires
-    enum-known-depths
-    enum-told
-    plain-requires
+    (λ c κs. search needs)
+    (λ c. search needs)
+    (λ c. search needs)
+    (λ c κs. search needs)
     returns
-    agree-requires
-    plain-requires-2
+    (λ c κs. search needs)
+    (λ c κs. search needs)
     returns-2
-    answers-requires
-    plain-requires-3
+    (λ c κs. search needs)
+    (λ c κs. search needs)
     returns-3
     returns-4)

@@ -5,19 +5,10 @@ use borrow.Author.Needs.{needs}
 use Rattle.setting.proofs.verdict.refused_code.Statement.{statement}
 use Rattle.setting.proofs.verdict.refused_code.Tie as tie
 
-standing-requires : tie.Need-standing-requires
-standing-requires c κs = search needs
-
 returns : tie.Need-returns
 returns c =
     let a = c .before .before .args in
     c .before .standing .ensures ∙ own-row (a .matrix) (a .primaries) (a .transfer) (λ e. c .if1 .taken (c .before .standing .ensures ∙ e))
-
-primaries-label-requires : tie.Need-primaries-label-requires
-primaries-label-requires c κs = search needs
-
-is-reserved-requires : tie.Need-is-reserved-requires
-is-reserved-requires c κs = search needs
 
 returns-2 : tie.Need-returns-2
 returns-2 c =
@@ -25,12 +16,6 @@ returns-2 c =
     row-4 (a .matrix) (a .primaries) (a .transfer)
     (sym (c .before .before .before .before .standing .ensures) ∙ c .before .before .before .if1 .left)
     (tested (c .before .before .primaries-label .ensures) (c .before .is-reserved .ensures) (c .if2 .taken))
-
-transfer-label-requires : tie.Need-transfer-label-requires
-transfer-label-requires c κs = search needs
-
-is-reserved-requires-2 : tie.Need-is-reserved-requires-2
-is-reserved-requires-2 c κs = search needs
 
 returns-3 : tie.Need-returns-3
 returns-3 c =
@@ -52,12 +37,12 @@ pub refused-code-spec : {M : Type 1} → statement M
 refused-code-spec =
     tie.close
     (tie.spec
-    standing-requires
+    (λ c κs. search needs)
     returns
-    primaries-label-requires
-    is-reserved-requires
+    (λ c κs. search needs)
+    (λ c κs. search needs)
     returns-2
-    transfer-label-requires
-    is-reserved-requires-2
+    (λ c κs. search needs)
+    (λ c κs. search needs)
     returns-3
     returns-4)

@@ -29,27 +29,12 @@ outside : (f : Family) (r y c : ℕ) → depthsServed f r y c ≡ false → chec
 unfolding servedDepths
 outside f r y c e = rw e
 
-checked-requires : tie.Need-checked-requires
-checked-requires c κs = search needs
-
-enum-known-depths : tie.Need-enum-known-depths
-enum-known-depths c = search needs
-
-enum-told : tie.Need-enum-told
-enum-told c = search needs
-
 returns : tie.Need-returns
 unfolding depthsServed
 returns c =
     let a = c .before .before .before .args in
     outside (a .family) (a .rgb) (a .luma) (a .chroma)
     (rw (not-depths (a .rgb) (a .luma) (a .chroma) (sym (c .before .before .checked .ensures) ∙ c .enum-told .given .1)))
-
-most-for-requires : tie.Need-most-for-requires
-most-for-requires c κs = search needs
-
-at-most-requires : tie.Need-at-most-requires
-at-most-requires c κs = search needs
 
 -- past the check, the depths are those of the setting
 known : (c : tie.After-depths) → let a = c .before .before .before .args in (areDepths (a .rgb) (a .luma) (a .chroma) ≡ true) × (depthsOf (a .rgb) (a .luma) (a .chroma) ≡ c .depths .given .0 .0)
@@ -74,11 +59,11 @@ pub served-depths-spec : {M : Type 1} → statement M
 served-depths-spec =
     tie.close
     (tie.spec
-    checked-requires
-    enum-known-depths
-    enum-told
+    (λ c κs. search needs)
+    (λ c. search needs)
+    (λ c. search needs)
     returns
-    most-for-requires
-    at-most-requires
+    (λ c κs. search needs)
+    (λ c κs. search needs)
     returns-2
     returns-3)

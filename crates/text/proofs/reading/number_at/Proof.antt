@@ -3,14 +3,8 @@ use borrow.Author.Needs.{needs}
 use Rattle.text.proofs.reading.number_at.Statement.{statement}
 use Rattle.text.proofs.reading.number_at.Tie as tie
 
-word-at-requires : tie.Need-word-at-requires
-word-at-requires c κs = search needs
-
-number-in-requires : tie.Need-number-in-requires
-number-in-requires c κs = search needs
-
 returns : tie.Need-returns
 returns c = rw (← c .before .word-at .ensures) (c .number-in .ensures)
 
 pub number-at-spec : {M : Type 1} → statement M
-number-at-spec = tie.close (tie.spec word-at-requires number-in-requires returns)
+number-at-spec = tie.close (tie.spec (λ c κs. search needs) (λ c κs. search needs) returns)

@@ -26,23 +26,11 @@ abbrev μ-loop : tie.MeasureT-loop
 loop-holds : tie.Need-loop-holds Inv-loop μ-loop
 loop-holds c = (omega arith, omega arith, omega arith)
 
-end-of-requires : tie.Need-end-of-requires Inv-loop μ-loop
-end-of-requires c κs = search needs
-
-sub-same-word : tie.Need-sub-same-word Inv-loop μ-loop
-sub-same-word c = search needs
-
-part-same-word-start : tie.Need-part-same-word-start Inv-loop μ-loop
-part-same-word-start c = search needs
-
 part-same-word-end : tie.Need-part-same-word-end Inv-loop μ-loop
 part-same-word-end c =
     let a = c .before .before .before .before .before .args in
     let e = end-within 32 (now (a .names)) (c .before .before .loop .at) 0 (omega arith) in
     omega arith
-
-same-word-requires : tie.Need-same-word-requires Inv-loop μ-loop
-same-word-requires c κs = search needs
 
 returns : tie.Need-returns Inv-loop μ-loop
 returns c =
@@ -57,9 +45,6 @@ add-at c =
     let l = c .before .before .before .before .before .loop in
     let e = end-within 32 (now (a .names)) (l .at) 0 (omega arith) in
     omega (arith, c .before .before .before .end-of .ensures)
-
-add-n : tie.Need-add-n Inv-loop μ-loop
-add-n c = search needs
 
 loop-less : tie.Need-loop-less Inv-loop μ-loop
 loop-less c =
@@ -91,14 +76,14 @@ place-among-spec =
     Inv-loop
     μ-loop
     loop-holds
-    end-of-requires
-    sub-same-word
-    part-same-word-start
+    (λ c κs. search needs)
+    (λ c. search needs)
+    (λ c. search needs)
     part-same-word-end
-    same-word-requires
+    (λ c κs. search needs)
     returns
     add-at
-    add-n
+    (λ c. search needs)
     loop-less
     loop-again
     returns-2)

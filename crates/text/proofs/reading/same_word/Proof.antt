@@ -4,11 +4,8 @@ use borrow.Author.Needs.{needs}
 use Rattle.text.proofs.reading.same_word.Statement.{statement}
 use Rattle.text.proofs.reading.same_word.Tie as tie
 
-same-requires : tie.Need-same-requires
-same-requires c κs = search needs
-
 returns : tie.Need-returns
 returns c = same-is _ _ _ (c .same .ensures .0) (c .same .ensures .1)
 
 pub same-word-spec : {M : Type 1} → statement M
-same-word-spec = tie.close (tie.spec same-requires returns)
+same-word-spec = tie.close (tie.spec (λ c κs. search needs) returns)

@@ -18,9 +18,6 @@ abbrev μ-loop : tie.MeasureT-loop
 loop-holds : tie.Need-loop-holds Inv-loop μ-loop
 loop-holds c = (omega arith, refl, omega arith)
 
-end-of-requires : tie.Need-end-of-requires Inv-loop μ-loop
-end-of-requires c κs = search needs
-
 add-start : tie.Need-add-start Inv-loop μ-loop
 add-start c =
     let a = c .before .before .before .before .args in
@@ -28,21 +25,12 @@ add-start c =
     let e = end-within (a .gap) (now (a .s)) (l .start) (l .counter) (omega arith) in
     omega arith
 
-add-counter : tie.Need-add-counter Inv-loop μ-loop
-add-counter c = search needs
-
-loop-less : tie.Need-loop-less Inv-loop μ-loop
-loop-less c = search needs
-
 loop-again : tie.Need-loop-again Inv-loop μ-loop
 loop-again c =
     let a = c .before .before .before .before .args in
     let l = c .before .before .loop in
     let e = end-within (a .gap) (now (a .s)) (l .start) (l .counter) (omega arith) in
     (omega arith, rw (c .end-of .ensures) (next-starts (a .gap) (now (a .s)) (l .counter) (l .start) (l .inv .1)), omega arith)
-
-end-of-requires-2 : tie.Need-end-of-requires-2 Inv-loop μ-loop
-end-of-requires-2 c κs = search needs
 
 returns : tie.Need-returns Inv-loop μ-loop
 returns c =
@@ -65,11 +53,11 @@ span-of-spec =
     Inv-loop
     μ-loop
     loop-holds
-    end-of-requires
+    (λ c κs. search needs)
     add-start
-    add-counter
-    loop-less
+    (λ c. search needs)
+    (λ c. search needs)
     loop-again
-    end-of-requires-2
+    (λ c κs. search needs)
     returns
     returns-2)

@@ -1,0 +1,44 @@
+-- `rounding::round_clip_by` meets its contract as `round_clip` does: a quotient that stops at 65,536 is past every top.
+use mathlib.Core.Path.{_≡_, ap, _∙_}
+use Prim.Native.Nat.{ℕ, _*_, _/_, min}
+use native.Mathlib.Omega.{arith}
+use borrow.Author.Needs.{needs}
+use Rattle.rounding.proofs.Rounding.{below-zero, from-zero}
+use Rattle.rounding.proofs.round_clip_by.Statement.{statement}
+use Rattle.rounding.proofs.round_clip_by.Tie as tie
+
+-- the quotient by what stands for twice the denominator
+by-twice : (n over den r : ℕ) → over ≡ 2 * den → r ≡ min (n / over) 65536 → min r 65536 ≡ min (n / (2 * den)) 65536
+by-twice n over den r e is = let same : n / over ≡ n / (2 * den) = ap (λ d. n / d) e in omega arith
+
+returns : tie.Need-returns
+returns c =
+    let s = c .before .before .before in
+    let a = s .args in
+    c .lowered .ensures
+    ∙ below-zero (a .p) (a .q) (a .den) (a .mid) (a .top) _ (omega arith) (omega arith) (omega arith)
+    (by-twice _ (a .by .over) (a .den) _ (s .pre .1 .1) (c .before .quotient .ensures))
+
+returns-2 : tie.Need-returns-2
+returns-2 c =
+    let s = c .before .before .before in
+    let a = s .args in
+    c .raised .ensures
+    ∙ from-zero (a .p) (a .q) (a .den) (a .mid) (a .top) _ (omega arith) (omega arith) (omega arith)
+    (by-twice _ (a .by .over) (a .den) _ (s .pre .1 .1) (c .before .quotient2 .ensures))
+
+pub round-clip-by-spec : {M : Type 1} → statement M
+round-clip-by-spec =
+    tie.close
+    (tie.spec
+    (λ c. search needs)
+    (λ c. search needs)
+    (λ c. search needs)
+    (λ c κs. search needs)
+    (λ c κs. search needs)
+    returns
+    (λ c. search needs)
+    (λ c. search needs)
+    (λ c κs. search needs)
+    (λ c κs. search needs)
+    returns-2)

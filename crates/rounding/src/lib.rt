@@ -1,0 +1,75 @@
+// Round and Clip, each with its one home. A number below zero is carried as the difference of two that are not.
+pub mod quotient;
+
+ghost use mathlib.Core.Path.{_≡_};
+ghost use Prim.Native.Nat.{_+_, _*_, _-_, _≤_, _<_, min};
+ghost use lib.IntN.{pos, _+ℤ_, _-ℤ_};
+ghost use Rattle.rounding.specs.Rounding.{round, clip, Rounds};
+ghost use Rattle.rounding.specs.Quotient.{Divides};
+use quotient::Divisor;
+
+// mid - n, brought up to 0.
+fn lowered(n: u64, mid: u64) -> u16
+    requires { ⌜ mid < 65536 ⌝ }
+    ensures { λ r. ⌜ r ≡ mid - n ⌝ }
+{
+    if mid < n {
+        return 0;
+    }
+    (mid - n) as u16
+}
+
+// mid + n, brought down to top.
+fn raised(n: u64, mid: u64, top: u64) -> u16
+    requires { ⌜ mid ≤ top ⌝ }
+    requires { ⌜ top < 65536 ⌝ }
+    ensures { λ r. ⌜ r ≡ min (mid + n) top ⌝ }
+{
+    if top - mid < n {
+        return top as u16;
+    }
+    (mid + n) as u16
+}
+
+// Clip(Round((p - q) / den) + mid) into 0..top. For a denominator that is a literal.
+pub fn round_clip(p: u64, q: u64, den: u64, mid: u64, top: u64) -> u16
+    requires { ⌜ Rounds p q den mid top ⌝ }
+    ensures { λ r. ⌜ r ≡ clip top (round (pos p -ℤ pos q) den +ℤ pos mid) ⌝ }
+{
+    if p < q {
+        let n = (2 * (q - p) + den) / (2 * den);
+        return lowered(n, mid);
+    }
+    let n = (2 * (p - q) + den) / (2 * den);
+    raised(n, mid, top)
+}
+
+// The same, for a denominator that many numbers are divided by: `by` stands for twice that.
+pub fn round_clip_by(p: u64, q: u64, den: u64, by: Divisor, mid: u64, top: u64) -> u16
+    requires { ⌜ Rounds p q den mid top ⌝ }
+    requires { ⌜ Divides by ⌝ }
+    requires { ⌜ by .over ≡ 2 * den ⌝ }
+    ensures { λ r. ⌜ r ≡ clip top (round (pos p -ℤ pos q) den +ℤ pos mid) ⌝ }
+{
+    if p < q {
+        let n = quotient::quotient(2 * (q - p) + den, by);
+        return lowered(n, mid);
+    }
+    let n = quotient::quotient(2 * (p - q) + den, by);
+    raised(n, mid, top)
+}
+
+// Clip(p - q) into 0..top.
+pub fn clip_difference(p: u32, q: u32, top: u32) -> u16
+    requires { ⌜ top < 65536 ⌝ }
+    ensures { λ r. ⌜ r ≡ clip top (pos p -ℤ pos q) ⌝ }
+{
+    if p < q {
+        return 0;
+    }
+    let n = p - q;
+    if top < n {
+        return top as u16;
+    }
+    n as u16
+}

@@ -1,3 +1,0 @@
--- What every other crate means by Round, Clip and ">> 1".
-pub mod Whole
-pub mod Quotient
