@@ -1,2 +1,2 @@
--- Laws of refusal tables.
-pub mod TableLaws
+-- Laws of lists of rules.
+pub mod RuleLaws

@@ -1,2 +1,2 @@
--- What a refusal is, and how the first row of a table is found.
-pub mod Table
+-- What a refusal is, and how the first of a list of rules is found.
+pub mod Rules

@@ -1,6 +1,6 @@
 // The one refusal type of every call: a number, and a place where the number is 10.
 ghost use mathlib.Core.Path.{_≡_};
-ghost use Rattle.refusal.specs.Table.{plain, badAt};
+ghost use Rattle.refusal.specs.Rules.{numbered, badAt};
 
 // Where a sample stands: its plane, row and column, counted from 0.
 pub struct Place {
@@ -12,6 +12,12 @@ pub struct Place {
 pub struct Refusal {
     pub number: u8,
     pub place: Place,
+}
+
+// What the rules of a call come to.
+pub enum Check {
+    Passed,
+    Refused(Refusal),
 }
 
 impl Refusal {
@@ -38,8 +44,8 @@ impl Refusal {
     pub const NOT_FOR_THIS_SETTING: u8 = 11;
 
     // A refusal that names no place.
-    pub fn plain(number: u8) -> Refusal
-        ensures { λ r. ⌜ r ≡ plain number ⌝ }
+    pub fn numbered(number: u8) -> Refusal
+        ensures { λ r. ⌜ r ≡ numbered number ⌝ }
     {
         let place = Place {
             plane: 0,
