@@ -1,70 +1,69 @@
--- The lines of every served setting have room in 64 bits. The green row of the reverse is the largest: its weights are at most
--- 5/4 of the square of the whole, whatever KR and KB are.
+-- The lines of every setting have room in 64 bits. Of the luma matrices the green equation of the reverse is the largest: its weights
+-- are at most 5/4 of the square of the whole, whatever KR and KB are.
 use mathlib.Core.Path.{_≡_, ap}
 use mathlib.Core.Bool.{Bool, true, false}
 use Prim.Native.Nat.{ℕ, zero, suc, _+_, _*_, _^_, _≤_, _<_}
 use native.Mathlib.Nat.{mul-pos, mul-le-mul, mul-le-mul-left, le-refl}
 use native.Mathlib.Omega.{arith}
-use Rattle.sample.specs.Depth.{mostLumaMatrixDepth, Inside}
+use Rattle.sample.specs.Depth.{mostLevelDepth, Inside}
 use Rattle.sample.specs.declared.ChromaDepth.{ChromaDepth}
 use Rattle.sample.specs.declared.Pixel.{Pixel}
 use Rattle.sample.proofs.DepthLaws.{Powers, powers}
-use Rattle.levels.specs.Paper.{allParts, weights, lightScale, chromaScale}
-use Rattle.levels.specs.Luma.{Shares, LumaMatrixDepth, mostSample, SamplesServed}
-use Rattle.levels.specs.Rows.{rowY, rowPB, rowPR, rowR, rowG, rowB}
-use Rattle.levels.specs.Lines.{targetOf, sourcesOfRgb, sourcesOfYcc, spread, lineOf}
-use Rattle.levels.specs.Room.{total, mostTotal, ScaleServed, SpreadServed, LineServed, Room}
-use Rattle.levels.specs.declared.Scale.{Scale}
-use Rattle.levels.specs.declared.Weights.{Weights}
-use Rattle.levels.specs.declared.rows.Row.{Row}
-use Rattle.levels.specs.declared.prepared.Sources.{Sources}
-use Rattle.levels.specs.declared.prepared.Target.{Target}
+use Rattle.scale.specs.Scale.{lightScale, chromaScale}
+use Rattle.levels.specs.Conversion.{Shares, EquationServed, MatrixServed, LevelDepth, mostSample, SamplesServed}
+use Rattle.levels.specs.Equations.{allParts, weights, equationY, equationPB, equationPR, equationR, equationG, equationB, lumaMatrix}
+use Rattle.levels.specs.Lines.{writerOf, readersOfRgb, readersOfYcc, spread, lineOf}
+use Rattle.levels.specs.Room.{ScaleServed, SpreadServed, LineServed, Room}
+use Rattle.scale.specs.declared.Scale.{Scale}
+use Rattle.levels.specs.declared.equations.Weights.{Weights}
+use Rattle.levels.specs.declared.equations.Equation.{Equation}
+use Rattle.levels.specs.declared.lines.Readers.{Readers}
+use Rattle.levels.specs.declared.lines.Writer.{Writer}
 
 -- the powers of two of a depth that is served
-depth-powers : {d : ℕ} → LumaMatrixDepth d → Powers d mostLumaMatrixDepth
-depth-powers {d} h = powers d mostLumaMatrixDepth (h .least) (h .most)
+depth-powers : {d : ℕ} → LevelDepth d → Powers d mostLevelDepth
+depth-powers {d} h = powers d mostLevelDepth (h .least) (h .most)
 
 -- Samples within such depths.
-sample-served : {d v : ℕ} → LumaMatrixDepth d → v < 2 ^ d → v ≤ mostSample
+sample-served : {d v : ℕ} → LevelDepth d → v < 2 ^ d → v ≤ mostSample
 sample-served h l = let p = depth-powers h in omega arith
 
-pub samples-served : {a b c : ℕ} {p : Pixel} → LumaMatrixDepth a → LumaMatrixDepth b → LumaMatrixDepth c → Inside a b c p → SamplesServed p
+pub samples-served : {a b c : ℕ} {p : Pixel} → LevelDepth a → LevelDepth b → LevelDepth c → Inside a b c p → SamplesServed p
 samples-served a b c h = record { p0-in = sample-served a (h .in0); p1-in = sample-served b (h .in1); p2-in = sample-served c (h .in2) }
 
--- Scales and targets of the depths served.
-pub record TargetServed (most : ℕ) (t : Target) : Type 0 where
+-- Scales and writers of the depths served.
+pub record WriterServed (most : ℕ) (t : Writer) : Type 0 where
   pub times-in : t .times ≤ mostSample
   pub plus-in : t .plus ≤ most
   pub mid-in : t .mid ≤ t .top
   pub top-in : t .top ≤ mostSample
 
-module _ (d : ℕ) (h : LumaMatrixDepth d) where
+module _ (d : ℕ) (h : LevelDepth d) where
   pub light-scale-served : (f : Bool) → ScaleServed (lightScale f d)
   light-scale-served true = let p = depth-powers h in omega arith
   light-scale-served false = let p = depth-powers h in omega arith
 
-  pub light-target-served : (f : Bool) → TargetServed 256 (targetOf f (lightScale f d) d)
-  light-target-served true = let p = depth-powers h in omega arith
-  light-target-served false = let p = depth-powers h in omega arith
+  pub light-writer-served : (f : Bool) → WriterServed 256 (writerOf f (lightScale f d) d)
+  light-writer-served true = let p = depth-powers h in omega arith
+  light-writer-served false = let p = depth-powers h in omega arith
 
-module _ (d : ChromaDepth) (h : LumaMatrixDepth (d .0)) where
+module _ (d : ChromaDepth) (h : LevelDepth (d .0)) where
   pub chroma-scale-served : (f : Bool) → ScaleServed (chromaScale f d)
   chroma-scale-served true = let p = depth-powers h in omega arith
   chroma-scale-served false = let p = depth-powers h in omega arith
 
-  pub chroma-target-served : (f : Bool) → TargetServed 2048 (targetOf f (chromaScale f d) (d .0))
-  chroma-target-served true = let p = depth-powers h in omega arith
-  chroma-target-served false = let p = depth-powers h in omega arith
+  pub chroma-writer-served : (f : Bool) → WriterServed 2048 (writerOf f (chromaScale f d) (d .0))
+  chroma-writer-served true = let p = depth-powers h in omega arith
+  chroma-writer-served false = let p = depth-powers h in omega arith
 
-pub wider : {t : Target} → TargetServed 256 t → TargetServed 2048 t
+pub wider : {t : Writer} → WriterServed 256 t → WriterServed 2048 t
 wider h = omega arith
 
--- The six rows.
-pub record RowServed (w : Row) : Type 0 where
-  pub some : 0 < w .over
-  pub over-in : w .over ≤ allParts * allParts
-  pub total-in : total w ≤ mostTotal
+-- Weights in ten-thousandths.
+pub shares : (kr kb : ℕ) → kr + kb < allParts → Shares (weights kr kb)
+shares kr kb h = omega arith
 
+-- The six equations of a luma matrix.
 twice-product : (a b : ℕ) → 2 * (a * b) ≤ a * a + b * b
 twice-product zero b = omega arith
 twice-product (suc a) zero = omega arith
@@ -75,31 +74,39 @@ green-bound : (n r g b : ℕ) → r + g + b ≡ n → 4 * (n * g + 2 * b * (r + 
 green-bound n r g b e = let p = twice-product g (r + b) in let q = twice-product r b in rw (← e) (omega arith)
 
 module _ (k : Weights) (h : Shares k) where
-  pub y-served : RowServed (rowY k)
+  pub y-served : EquationServed (equationY k)
   y-served = omega arith
 
-  pub pb-served : RowServed (rowPB k)
+  pub pb-served : EquationServed (equationPB k)
   pb-served = omega arith
 
-  pub pr-served : RowServed (rowPR k)
+  pub pr-served : EquationServed (equationPR k)
   pr-served = omega arith
 
-  pub r-served : RowServed (rowR k)
+  pub r-served : EquationServed (equationR k)
   r-served = omega arith
 
-  pub b-served : RowServed (rowB k)
+  pub b-served : EquationServed (equationB k)
   b-served = omega arith
 
-  pub g-served : RowServed (rowG k)
+  pub g-served : EquationServed (equationG k)
   g-served =
       let e = ap (λ n. n * k .kg) (h .all-is) in
       let f = ap (λ n. n * n) (h .all-is) in
       let b = green-bound (k .all) (k .kr) (k .kg) (k .kb) (h .sum) in
       record { some = omega arith; over-in = omega arith; total-in = omega arith }
 
+  pub luma-served : MatrixServed (lumaMatrix k)
+  unfolding lumaMatrix
+  luma-served =
+      record {
+        forward = record { first = y-served; second = pb-served; third = pr-served };
+        reverse = record { first = r-served; second = g-served; third = b-served };
+      }
+
 -- A line of them.
-module _ (w : Row) (r : RowServed w) (to : Target) where
-  pub forward-served : (s : Scale) → ScaleServed s → TargetServed 2048 to → LineServed w (sourcesOfRgb s) to
+module _ (w : Equation) (r : EquationServed w) (to : Writer) where
+  pub forward-served : (s : Scale) → ScaleServed s → WriterServed 2048 to → LineServed w (readersOfRgb s) to
   forward-served s h t =
       let p = mul-le-mul (r .over-in) (h .times-in) in
       let q = mul-le-mul (t .plus-in) p in
@@ -113,7 +120,7 @@ module _ (w : Row) (r : RowServed w) (to : Target) where
         added-in = omega arith;
       }
 
-  pub reverse-served : (y c : Scale) → ScaleServed y → ScaleServed c → TargetServed 256 to → LineServed w (sourcesOfYcc y c) to
+  pub reverse-served : (y c : Scale) → ScaleServed y → ScaleServed c → WriterServed 256 to → LineServed w (readersOfYcc y c) to
   reverse-served y c h g t =
       let p = mul-le-mul (r .over-in) (mul-le-mul (g .times-in) (h .times-in)) in
       let q = mul-le-mul (t .plus-in) p in
@@ -137,7 +144,7 @@ carried t m u ht hm =
     let a = mul-le-mul hm (le-refl u) in
     record { read = a; written = omega (arith, mul-le-mul ht a) }
 
-pub record Spread (w : Row) (from : Sources) (t : ℕ) : Type 0 where
+pub record Spread (w : Equation) (from : Readers) (t : ℕ) : Type 0 where
   pub up0 : Carried t (from .first .mul) (w .up0)
   pub up1 : Carried t (from .rest .mul) (w .up1)
   pub up2 : Carried t (from .rest .mul) (w .up2)
@@ -145,7 +152,7 @@ pub record Spread (w : Row) (from : Sources) (t : ℕ) : Type 0 where
   pub down1 : Carried t (from .rest .mul) (w .down1)
   pub down2 : Carried t (from .rest .mul) (w .down2)
 
-pub spread-bounds : {w : Row} {from : Sources} {t : ℕ} → SpreadServed w from t → Spread w from t
+pub spread-bounds : {w : Equation} {from : Readers} {t : ℕ} → SpreadServed w from t → Spread w from t
 spread-bounds h =
     record {
       up0 = carried _ _ _ (h .times-in) (h .first-in);
@@ -156,8 +163,8 @@ spread-bounds h =
       down2 = carried _ _ _ (h .times-in) (h .rest-in);
     }
 
--- A row's weights, each times a number no larger than the largest sample.
-pub record Terms (w : Row) (x y z : ℕ) : Type 0 where
+-- An equation's weights, each times a number no larger than the largest sample.
+pub record Terms (w : Equation) (x y z : ℕ) : Type 0 where
   pub up0 : w .up0 * x ≤ w .up0 * mostSample
   pub up1 : w .up1 * y ≤ w .up1 * mostSample
   pub up2 : w .up2 * z ≤ w .up2 * mostSample
@@ -165,7 +172,7 @@ pub record Terms (w : Row) (x y z : ℕ) : Type 0 where
   pub down1 : w .down1 * y ≤ w .down1 * mostSample
   pub down2 : w .down2 * z ≤ w .down2 * mostSample
 
-pub terms : (w : Row) {x y z : ℕ} → x ≤ mostSample → y ≤ mostSample → z ≤ mostSample → Terms w x y z
+pub terms : (w : Equation) {x y z : ℕ} → x ≤ mostSample → y ≤ mostSample → z ≤ mostSample → Terms w x y z
 terms w hx hy hz =
     record {
       up0 = mul-le-mul-left _ hx;
@@ -177,15 +184,15 @@ terms w hx hy hz =
     }
 
 -- What a line is made of, and that it has room.
-pub record LineBounds (w : Row) (from : Sources) (to : Target) : Type 0 where
+pub record LineBounds (w : Equation) (from : Readers) (to : Writer) : Type 0 where
   pub served : LineServed w from to
   pub weights : Spread w from (to .times)
   pub taken : Terms (spread w from (to .times)) (from .first .plus) (from .rest .plus) (from .rest .plus)
 
-pub line-bounds : {w : Row} {from : Sources} {to : Target} → LineServed w from to → LineBounds w from to
+pub line-bounds : {w : Equation} {from : Readers} {to : Writer} → LineServed w from to → LineBounds w from to
 line-bounds h = record { served = h; weights = spread-bounds (h .spreads); taken = terms _ (h .first-plus) (h .rest-plus) (h .rest-plus) }
 
-pub room : {w : Row} {from : Sources} {to : Target} → LineServed w from to → Room (lineOf w from to)
+pub room : {w : Equation} {from : Readers} {to : Writer} → LineServed w from to → Room (lineOf w from to)
 room h =
     let b = line-bounds h in
     record {

@@ -1,4 +1,5 @@
--- Each of the six formulas has the value of its row: put together term by term, over the denominator that the three levels share.
+-- Each printed formula has the value of its equation, and so has the equation as it is written with fractions: put together term by term,
+-- over the denominator that the three levels share.
 use mathlib.Core.Path.{_≡_, refl, ap, _∙_}
 use Prim.Native.Nat.{ℕ, _+_, _*_, _<_}
 use native.Mathlib.Nat.{one-mul}
@@ -9,9 +10,25 @@ use Rattle.rounding.proofs.Closers.{same, absolute}
 use Rattle.fraction.specs.Fraction.{Frac, _⊖_, _⊗_, _÷_, part, whole}
 use Rattle.fraction.proofs.Value.{Value, ⊕-value, ⊖-value, ⊗-value, ÷-value, lift, rename}
 use Rattle.levels.specs.Paper.{KG, EY, EPB, EPR, ER, EG, EB}
-use Rattle.levels.specs.Luma.{Shares}
-use Rattle.levels.specs.Rows.{sumOf, rowY, rowPB, rowPR, rowR, rowG, rowB}
-use Rattle.levels.specs.declared.Weights.{Weights}
+use Rattle.levels.specs.Conversion.{Formula, Shares}
+use Rattle.levels.specs.Equations.{levelBy, sumOf, equationY, equationPB, equationPR, equationR, equationG, equationB}
+use Rattle.levels.specs.declared.equations.Equation.{Equation}
+use Rattle.levels.specs.declared.equations.Weights.{Weights}
+
+-- a formula that has the value of an equation, at any three levels over one denominator
+pub record Gives (f : Formula) (w : Equation) : Type 0 where
+  pub value : {x y z : Frac} {u v t : ℤ} {D : ℕ} → Value x u D → Value y v D → Value z t D → Value (f x y z) (sumOf w u v t) (w .over * D)
+
+pub by-equation : (w : Equation) → 0 < w .over → Gives (levelBy w) w
+by-equation w h =
+    record {
+      value = λ a b c.
+          ⊕-value
+          (⊕-value
+          (⊗-value (pos (w .up0) -ℤ pos (w .down0)) (w .over) h a)
+          (⊗-value (pos (w .up1) -ℤ pos (w .down1)) (w .over) h b))
+          (⊗-value (pos (w .up2) -ℤ pos (w .down2)) (w .over) h c);
+    }
 
 -- 2(1 - K), for a weight K of k parts that leaves j of n: to multiply by it, and to divide a difference by it
 abbrev pub twice : ℕ → ℕ → Frac
@@ -67,31 +84,31 @@ module _ (k : Weights) (h : Shares k) {x y z : Frac} {u v w : ℤ} {D : ℕ} (hx
       (⊕-value (⊗-value (pos (k .kr)) (k .all) (all-some k h) hx) (⊗-value (pos (k .kg)) (k .all) (all-some k h) hy))
       (⊗-value (pos (k .kb)) (k .all) (all-some k h) hz)
 
-  pub y-value : Value (EY k x y z) (sumOf (rowY k) u v w) (rowY k .over * D)
+  y-value : Value (EY k x y z) (sumOf (equationY k) u v w) (equationY k .over * D)
   y-value =
       let p = parts-of u in
       let q = parts-of v in
       let r = parts-of w in
-      rename (same {x = sumY k u v w} {y = sumOf (rowY k) u v w} (search parts) (search parts depth 10) (omega arith)) refl printed-y
+      rename (same {x = sumY k u v w} {y = sumOf (equationY k) u v w} (search parts) (search parts depth 10) (omega arith)) refl printed-y
 
-  pub pb-value : Value (EPB k x y z) (sumOf (rowPB k) u v w) (rowPB k .over * D)
+  pb-value : Value (EPB k x y z) (sumOf (equationPB k) u v w) (equationPB k .over * D)
   pb-value =
       let p = parts-of u in
       let q = parts-of v in
       let r = parts-of w in
       rename
-      (same {x = pos (k .all) *ℤ w -ℤ sumY k u v w} {y = sumOf (rowPB k) u v w} (search parts depth 10) (search parts depth 10)
+      (same {x = pos (k .all) *ℤ w -ℤ sumY k u v w} {y = sumOf (equationPB k) u v w} (search parts depth 10) (search parts depth 10)
       (omega (arith, ap (λ m. m * r .plus) (h .sum), ap (λ m. m * r .minus) (h .sum))))
       refl
       (over-twice (k .kb) (k .kr + k .kg) (k .all) (all-but-blue k h) (all-some k h) D (omega arith) (lift (k .all) hz) printed-y)
 
-  pub pr-value : Value (EPR k x y z) (sumOf (rowPR k) u v w) (rowPR k .over * D)
+  pr-value : Value (EPR k x y z) (sumOf (equationPR k) u v w) (equationPR k .over * D)
   pr-value =
       let p = parts-of u in
       let q = parts-of v in
       let r = parts-of w in
       rename
-      (same {x = pos (k .all) *ℤ u -ℤ sumY k u v w} {y = sumOf (rowPR k) u v w} (search parts depth 10) (search parts depth 10)
+      (same {x = pos (k .all) *ℤ u -ℤ sumY k u v w} {y = sumOf (equationPR k) u v w} (search parts depth 10) (search parts depth 10)
       (omega (arith, ap (λ m. m * p .plus) (h .sum), ap (λ m. m * p .minus) (h .sum))))
       refl
       (over-twice (k .kr) (k .kg + k .kb) (k .all) (all-but-red k h) (all-some k h) D (omega arith) (lift (k .all) hx) printed-y)
@@ -103,27 +120,27 @@ module _ (k : Weights) (h : Shares k) {x y z : Frac} {u v w : ℤ} {D : ℕ} (hx
   pub printed-b : Value (EB k x y z) (sumB k u v) (k .all * D)
   printed-b = ⊕-value (lift (k .all) hx) (times-twice (k .kb) (k .kr + k .kg) (k .all) (all-but-blue k h) (all-some k h) hy)
 
-  pub r-value : Value (ER k x y z) (sumOf (rowR k) u v w) (rowR k .over * D)
+  r-value : Value (ER k x y z) (sumOf (equationR k) u v w) (equationR k .over * D)
   r-value =
       let p = parts-of u in
       let q = parts-of v in
       let r = parts-of w in
-      rename (same {x = sumR k u w} {y = sumOf (rowR k) u v w} (search parts depth 10) (search parts depth 10) (omega arith)) refl printed-r
+      rename (same {x = sumR k u w} {y = sumOf (equationR k) u v w} (search parts depth 10) (search parts depth 10) (omega arith)) refl printed-r
 
-  pub b-value : Value (EB k x y z) (sumOf (rowB k) u v w) (rowB k .over * D)
+  b-value : Value (EB k x y z) (sumOf (equationB k) u v w) (equationB k .over * D)
   b-value =
       let p = parts-of u in
       let q = parts-of v in
       let r = parts-of w in
-      rename (same {x = sumB k u v} {y = sumOf (rowB k) u v w} (search parts depth 10) (search parts depth 10) (omega arith)) refl printed-b
+      rename (same {x = sumB k u v} {y = sumOf (equationB k) u v w} (search parts depth 10) (search parts depth 10) (omega arith)) refl printed-b
 
-  pub g-value : Value (EG k x y z) (sumOf (rowG k) u v w) (rowG k .over * D)
+  pub g-value : Value (EG k x y z) (sumOf (equationG k) u v w) (equationG k .over * D)
   g-value =
       let p = parts-of u in
       let q = parts-of v in
       let r = parts-of w in
       rename
-      (same {x = pos (k .all) *ℤ (pos (k .all) *ℤ u) -ℤ pos (k .kr) *ℤ sumR k u w -ℤ pos (k .kb) *ℤ sumB k u v} {y = sumOf (rowG k) u v w}
+      (same {x = pos (k .all) *ℤ (pos (k .all) *ℤ u) -ℤ pos (k .kr) *ℤ sumR k u w -ℤ pos (k .kb) *ℤ sumB k u v} {y = sumOf (equationG k) u v w}
       (search parts depth 14) (search parts depth 10)
       (green-numbers (k .all) (k .kr) (k .kg) (k .kb) (p .plus) (p .minus) (q .plus) (q .minus) (r .plus) (r .minus) (h .sum)))
       (omega arith)
@@ -132,3 +149,23 @@ module _ (k : Weights) (h : Shares k) {x y z : Frac} {u v w : ℤ} {D : ℕ} (hx
       (⊖-value (lift (k .all) (lift (k .all) hx)) (⊗-value (pos (k .kr)) (k .all) (all-some k h) printed-r))
       (⊗-value (pos (k .kb)) (k .all) (all-some k h) printed-b))
       refl)
+
+-- the six formulas and their equations
+module _ (k : Weights) (h : Shares k) where
+  pub gives-y : Gives (EY k) (equationY k)
+  gives-y = record { value = y-value k h }
+
+  pub gives-pb : Gives (EPB k) (equationPB k)
+  gives-pb = record { value = pb-value k h }
+
+  pub gives-pr : Gives (EPR k) (equationPR k)
+  gives-pr = record { value = pr-value k h }
+
+  pub gives-r : Gives (ER k) (equationR k)
+  gives-r = record { value = r-value k h }
+
+  pub gives-g : Gives (EG k) (equationG k)
+  gives-g = record { value = g-value k h }
+
+  pub gives-b : Gives (EB k) (equationB k)
+  gives-b = record { value = b-value k h }

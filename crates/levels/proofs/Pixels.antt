@@ -1,65 +1,118 @@
--- The lines of a setting give the pixel that the printed formulas give: each of the six formulas has the value of its row, and
--- the row's line writes it.
-use mathlib.Core.Path.{_≡_}
+-- The prepared lines of a matrix give the pixel that its equations give, and of a luma matrix the pixel that the printed formulas give:
+-- any formula with the value of an equation is written as the equation's line writes it.
+use mathlib.Core.Path.{_≡_, sym, _∙_}
 use Prim.Native.Nat.{ℕ, _*_}
 use native.Mathlib.Nat.{mul-pos}
 use Rattle.fraction.proofs.Value.{Value}
 use Rattle.sample.specs.declared.Pixel.{Pixel}
-use Rattle.levels.specs.Paper.{level}
-use Rattle.levels.specs.Luma.{LumaServed, rgbOf, lumaOf, chromaOf, lumaForward, lumaReverse}
-use Rattle.levels.specs.Rows.{rowY, rowPB, rowPR, rowR, rowG, rowB}
-use Rattle.levels.specs.Lines.{source, read, sourcesOfRgb, sourcesOfYcc, linesPixel, forwardLines, reverseLines}
-use Rattle.levels.specs.declared.LumaSetting.{LumaSetting}
-use Rattle.levels.specs.declared.Weights.{Weights}
-use Rattle.levels.proofs.Formulas.{y-value, pb-value, pr-value, r-value, g-value, b-value}
+use Rattle.scale.specs.Scale.{level}
+use Rattle.levels.specs.Equations.{levelBy, lumaMatrix}
+use Rattle.levels.specs.Conversion.{Formula, Shares, EquationsServed, MatrixServed, LevelsServed, rgbOf, lumaOf, chromaOf, toYcc, toRgb, levelsForward, levelsReverse, lumaForward, lumaReverse}
+use Rattle.levels.specs.Lines.{reader, read, readersOfRgb, readersOfYcc, rgbWriter, lumaWriter, chromaWriter, lineOf, lineSample, linesPixel}
+use Rattle.levels.specs.Room.{Prepared}
+use Rattle.levels.specs.declared.LevelSetting.{LevelSetting}
+use Rattle.levels.specs.declared.equations.Equations.{Equations}
+use Rattle.levels.specs.declared.equations.LevelMatrix.{LevelMatrix}
+use Rattle.levels.specs.declared.equations.Weights.{Weights}
+use Rattle.levels.specs.declared.lines.Lines.{Lines}
+use Rattle.levels.specs.declared.lines.Readers.{Readers}
+use Rattle.levels.specs.declared.lines.Writer.{Writer}
+use Rattle.levels.proofs.Bounds as bounds
+use Rattle.levels.proofs.Formulas.{Gives, by-equation, gives-y, gives-pb, gives-pr, gives-r, gives-g, gives-b}
 use Rattle.levels.proofs.Writing.{rgb-value, luma-value, chroma-value, light-sample, chroma-sample}
-use Rattle.levels.proofs.Bounds.{y-served, pb-served, pr-served, r-served, g-served, b-served}
 use Rattle.levels.proofs.Served.{rgb-served, luma-served, chroma-served}
 
-module _ (s : LumaSetting) (h : LumaServed s) (p : Pixel) where
-  abbrev k : Weights
-  k = s .weights
+-- three formulas with the values of three equations
+pub record AllGive (f g k : Formula) (e : Equations) : Type 0 where
+  pub first : Gives f (e .first)
+  pub second : Gives g (e .second)
+  pub third : Gives k (e .third)
 
+pub by-equations : (e : Equations) → EquationsServed e → AllGive (levelBy (e .first)) (levelBy (e .second)) (levelBy (e .third)) e
+by-equations e h =
+    record {
+      first = by-equation (e .first) (h .first .some);
+      second = by-equation (e .second) (h .second .some);
+      third = by-equation (e .third) (h .third .some);
+    }
+
+-- the pixel of three equations' lines
+abbrev lined : Equations → Readers → Writer → Writer → Pixel → Pixel
+lined e from t u p =
+    record {
+      p0 = lineSample (lineOf (e .first) from t) p;
+      p1 = lineSample (lineOf (e .second) from u) p;
+      p2 = lineSample (lineOf (e .third) from u) p;
+    }
+
+prepared-lined : {e : Equations} {from : Readers} {t u : Writer} {l : Lines} → Prepared e from t u l → (p : Pixel) → linesPixel l p ≡ lined e from t u p
+prepared-lined q p =
+    λ i. record { p0 = lineSample (q .first .is i) p; p1 = lineSample (q .second .is i) p; p2 = lineSample (q .third .is i) p }
+
+module _ (s : LevelSetting) (h : LevelsServed s) (p : Pixel) where
   -- what the samples of p stand for, on either side
-  of-rgb : (v : ℕ) → Value (level (rgbOf s) v) (read (source 1 (rgbOf s .plus)) v) (rgbOf s .times)
+  of-rgb : (v : ℕ) → Value (level (rgbOf s) v) (read (reader 1 (rgbOf s .plus)) v) (rgbOf s .times)
   of-rgb v = rgb-value (rgbOf s) v (rgb-served s h .some)
 
-  of-luma : (v : ℕ) → Value (level (lumaOf s) v) (read (source (chromaOf s .times) (lumaOf s .plus)) v) (chromaOf s .times * lumaOf s .times)
+  of-luma : (v : ℕ) → Value (level (lumaOf s) v) (read (reader (chromaOf s .times) (lumaOf s .plus)) v) (chromaOf s .times * lumaOf s .times)
   of-luma v = luma-value (lumaOf s) (chromaOf s) v (luma-served s h .some)
 
-  of-chroma : (v : ℕ) → Value (level (chromaOf s) v) (read (source (lumaOf s .times) (chromaOf s .plus)) v) (chromaOf s .times * lumaOf s .times)
+  of-chroma : (v : ℕ) → Value (level (chromaOf s) v) (read (reader (lumaOf s .times) (chromaOf s .plus)) v) (chromaOf s .times * lumaOf s .times)
   of-chroma v = chroma-value (lumaOf s) (chromaOf s) v (chroma-served s h .some)
 
-  pub forward-law : linesPixel (forwardLines s) p ≡ lumaForward s p
-  unfolding forwardLines lumaForward
-  forward-law =
-      let r = of-rgb (p .p0) in
-      let g = of-rgb (p .p1) in
-      let b = of-rgb (p .p2) in
-      let y = light-sample (rowY k) (sourcesOfRgb (rgbOf s)) p (y-value k (h .shares) r g b) (mul-pos (y-served k (h .shares) .some) (rgb-served s h .some)) in
-      let cb = chroma-sample (rowPB k) (sourcesOfRgb (rgbOf s)) p (pb-value k (h .shares) r g b) (mul-pos (pb-served k (h .shares) .some) (rgb-served s h .some)) in
-      let cr = chroma-sample (rowPR k) (sourcesOfRgb (rgbOf s)) p (pr-value k (h .shares) r g b) (mul-pos (pr-served k (h .shares) .some) (rgb-served s h .some)) in
-      λ i.
-      record {
-        p0 = y (s .«ycc_full») (s .depths .luma .0) i;
-        p1 = cb (s .«ycc_full») (s .depths .chroma) i;
-        p2 = cr (s .«ycc_full») (s .depths .chroma) i;
-      }
+  module _ (e : Equations) (k : EquationsServed e) {f g j : Formula} (a : AllGive f g j e) where
+    pub forward-by : lined e (readersOfRgb (rgbOf s)) (lumaWriter s) (chromaWriter s) p ≡ toYcc s f g j p
+    forward-by =
+        let from = readersOfRgb (rgbOf s) in
+        let some = rgb-served s h .some in
+        let r = of-rgb (p .p0) in
+        let t = of-rgb (p .p1) in
+        let b = of-rgb (p .p2) in
+        λ i.
+        record {
+          p0 = light-sample (e .first) from p (a .first .value r t b) (mul-pos (k .first .some) some) (s .«ycc_full») (s .depths .luma .0) i;
+          p1 = chroma-sample (e .second) from p (a .second .value r t b) (mul-pos (k .second .some) some) (s .«ycc_full») (s .depths .chroma) i;
+          p2 = chroma-sample (e .third) from p (a .third .value r t b) (mul-pos (k .third .some) some) (s .«ycc_full») (s .depths .chroma) i;
+        }
 
-  pub reverse-law : linesPixel (reverseLines s) p ≡ lumaReverse s p
-  unfolding reverseLines lumaReverse
-  reverse-law =
-      let y = of-luma (p .p0) in
-      let cb = of-chroma (p .p1) in
-      let cr = of-chroma (p .p2) in
-      let from = sourcesOfYcc (lumaOf s) (chromaOf s) in
-      let some = mul-pos (chroma-served s h .some) (luma-served s h .some) in
-      let r = light-sample (rowR k) from p (r-value k (h .shares) y cb cr) (mul-pos (r-served k (h .shares) .some) some) in
-      let g = light-sample (rowG k) from p (g-value k (h .shares) y cb cr) (mul-pos (g-served k (h .shares) .some) some) in
-      let b = light-sample (rowB k) from p (b-value k (h .shares) y cb cr) (mul-pos (b-served k (h .shares) .some) some) in
-      λ i.
-      record {
-        p0 = r (s .«rgb_full») (s .depths .rgb .0) i;
-        p1 = g (s .«rgb_full») (s .depths .rgb .0) i;
-        p2 = b (s .«rgb_full») (s .depths .rgb .0) i;
-      }
+    pub reverse-by : lined e (readersOfYcc (lumaOf s) (chromaOf s)) (rgbWriter s) (rgbWriter s) p ≡ toRgb s f g j p
+    reverse-by =
+        let from = readersOfYcc (lumaOf s) (chromaOf s) in
+        let some = mul-pos (chroma-served s h .some) (luma-served s h .some) in
+        let y = of-luma (p .p0) in
+        let cb = of-chroma (p .p1) in
+        let cr = of-chroma (p .p2) in
+        λ i.
+        record {
+          p0 = light-sample (e .first) from p (a .first .value y cb cr) (mul-pos (k .first .some) some) (s .«rgb_full») (s .depths .rgb .0) i;
+          p1 = light-sample (e .second) from p (a .second .value y cb cr) (mul-pos (k .second .some) some) (s .«rgb_full») (s .depths .rgb .0) i;
+          p2 = light-sample (e .third) from p (a .third .value y cb cr) (mul-pos (k .third .some) some) (s .«rgb_full») (s .depths .rgb .0) i;
+        }
+
+  -- the lines of a matrix
+  module _ (m : LevelMatrix) (k : MatrixServed m) (l : Lines) where
+    pub forward-law : Prepared (m .forward) (readersOfRgb (rgbOf s)) (lumaWriter s) (chromaWriter s) l → linesPixel l p ≡ levelsForward m s p
+    unfolding levelsForward
+    forward-law q = prepared-lined q p ∙ forward-by (m .forward) (k .forward) (by-equations (m .forward) (k .forward))
+
+    pub reverse-law : Prepared (m .reverse) (readersOfYcc (lumaOf s) (chromaOf s)) (rgbWriter s) (rgbWriter s) l → linesPixel l p ≡ levelsReverse m s p
+    unfolding levelsReverse
+    reverse-law q = prepared-lined q p ∙ reverse-by (m .reverse) (k .reverse) (by-equations (m .reverse) (k .reverse))
+
+  -- a luma matrix is the printed formulas
+  module _ (k : Weights) (w : Shares k) where
+    pub luma-forward : levelsForward (lumaMatrix k) s p ≡ lumaForward k s p
+    unfolding levelsForward lumaForward lumaMatrix
+    luma-forward =
+        let e = lumaMatrix k .forward in
+        let fits = bounds.luma-served k w .forward in
+        sym (forward-by e fits (by-equations e fits))
+        ∙ forward-by e fits (record { first = gives-y k w; second = gives-pb k w; third = gives-pr k w })
+
+    pub luma-reverse : levelsReverse (lumaMatrix k) s p ≡ lumaReverse k s p
+    unfolding levelsReverse lumaReverse lumaMatrix
+    luma-reverse =
+        let e = lumaMatrix k .reverse in
+        let fits = bounds.luma-served k w .reverse in
+        sym (reverse-by e fits (by-equations e fits))
+        ∙ reverse-by e fits (record { first = gives-r k w; second = gives-g k w; third = gives-b k w })

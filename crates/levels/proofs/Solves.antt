@@ -10,9 +10,9 @@ use Rattle.fraction.specs.Fraction.{Frac, _⊖_, _÷_, SameValue}
 use Rattle.fraction.proofs.Same.{ring}
 use Rattle.fraction.proofs.Value.{Value, lift, rename, both, itself}
 use Rattle.levels.specs.Paper.{EY, EPB, EPR, ER, EG, EB, Solved}
-use Rattle.levels.specs.Luma.{Shares}
-use Rattle.levels.specs.Rows.{sumOf, rowG}
-use Rattle.levels.specs.declared.Weights.{Weights}
+use Rattle.levels.specs.Conversion.{Shares}
+use Rattle.levels.specs.Equations.{sumOf, equationG}
+use Rattle.levels.specs.declared.equations.Weights.{Weights}
 use Rattle.levels.proofs.Formulas.{twice, over-twice, all-some, all-but-red, all-but-blue, sumY, sumR, sumB, printed-y, printed-r, printed-b, g-value}
 
 -- (42) over plain numbers, with the two parts of each of u, v and w
@@ -42,7 +42,7 @@ module _ (k : Weights) (h : Shares k) {x y z : Frac} {u v w : ℤ} {D : ℕ} (so
       let q = parts-of v in
       let r = parts-of w in
       rename
-      (same {x = sumY k (pos g *ℤ sumR k u w) (sumOf (rowG k) u v w) (pos g *ℤ sumB k u v)} {y = pos n *ℤ (pos (n * g) *ℤ u)}
+      (same {x = sumY k (pos g *ℤ sumR k u w) (sumOf (equationG k) u v w) (pos g *ℤ sumB k u v)} {y = pos n *ℤ (pos (n * g) *ℤ u)}
       (search parts depth 14) (search parts depth 10)
       (sum-numbers n (k .kr) g (k .kb) (p .plus) (p .minus) (q .plus) (q .minus) (r .plus) (r .minus) (h .sum)))
       refl

@@ -1,4 +1,4 @@
--- A row's line is the row, read and written as printed: the line's numbers are the row's, multiplied out.
+-- An equation's line is the equation, read and written as printed: the line's numbers are the equation's, multiplied out.
 use mathlib.Core.Path.{_≡_, refl, sym, ap, _∙_}
 use mathlib.Core.Bool.{Bool, true, false}
 use Prim.Native.Nat.{ℕ, _+_, _*_, _<_}
@@ -14,25 +14,25 @@ use Rattle.fraction.proofs.Value.{Value, ⊕-value, ⊗-value, lift, rename, Ro
 use Rattle.sample.specs.declared.ChromaDepth.{ChromaDepth}
 use Rattle.sample.specs.declared.Pixel.{Pixel}
 use Rattle.sample.specs.Depth.{M, H}
-use Rattle.levels.specs.Paper.{S, lightScale, chromaScale, level, written, writtenChroma}
-use Rattle.levels.specs.Rows.{sumOf}
-use Rattle.levels.specs.Lines.{targetOf, wroteLevel, source, read, lineOf, lineAt, lineSample}
-use Rattle.levels.specs.declared.Scale.{Scale}
-use Rattle.levels.specs.declared.rows.Row.{Row}
-use Rattle.levels.specs.declared.prepared.Sources.{Sources}
-use Rattle.levels.specs.declared.prepared.Target.{Target}
+use Rattle.scale.specs.Scale.{S, lightScale, chromaScale, level, written, writtenChroma}
+use Rattle.levels.specs.Equations.{sumOf}
+use Rattle.levels.specs.Lines.{writerOf, wroteLevel, reader, read, lineOf, lineAt, lineSample}
+use Rattle.scale.specs.declared.Scale.{Scale}
+use Rattle.levels.specs.declared.equations.Equation.{Equation}
+use Rattle.levels.specs.declared.lines.Readers.{Readers}
+use Rattle.levels.specs.declared.lines.Writer.{Writer}
 
 -- a sample's level, on its own scale, and as parts of a denominator that two scales share
 level-value : (s : Scale) (v : ℕ) → 0 < s .times → Value (level s v) (pos v -ℤ pos (s .plus)) (s .times)
 level-value s v = itself (level s v)
 
-pub rgb-value : (s : Scale) (v : ℕ) → 0 < s .times → Value (level s v) (read (source 1 (s .plus)) v) (s .times)
+pub rgb-value : (s : Scale) (v : ℕ) → 0 < s .times → Value (level s v) (read (reader 1 (s .plus)) v) (s .times)
 rgb-value s v h = rename refl (one-mul _) (lift 1 (level-value s v h))
 
-pub luma-value : (y c : Scale) (v : ℕ) → 0 < y .times → Value (level y v) (read (source (c .times) (y .plus)) v) (c .times * y .times)
+pub luma-value : (y c : Scale) (v : ℕ) → 0 < y .times → Value (level y v) (read (reader (c .times) (y .plus)) v) (c .times * y .times)
 luma-value y c v h = lift (c .times) (level-value y v h)
 
-pub chroma-value : (y c : Scale) (v : ℕ) → 0 < c .times → Value (level c v) (read (source (y .times) (c .plus)) v) (c .times * y .times)
+pub chroma-value : (y c : Scale) (v : ℕ) → 0 < c .times → Value (level c v) (read (reader (y .times) (c .plus)) v) (c .times * y .times)
 chroma-value y c v h = rename refl (mul-comm _ _) (lift (y .times) (level-value c v h))
 
 -- the two ways of writing a level of the value z / n
@@ -58,11 +58,11 @@ module _ {e : Frac} {z : ℤ} {n : ℕ} (h : Value e z n) (n-some : 0 < n) where
       (⊗-value (pos s) 1 (omega arith) (⊕-value (rename refl (one-mul n) (⊗-value (pos m) 1 (omega arith) h)) (whole-value o))))
       n-some
 
-  written-law : (f : Bool) (d : ℕ) → written f d e ≡ wroteLevel (targetOf f (lightScale f d) d) z n
+  written-law : (f : Bool) (d : ℕ) → written f d e ≡ wroteLevel (writerOf f (lightScale f d) d) z n
   written-law true d = ap (clip (M d)) (full (M d) ∙ sym (+ℤ-idr _))
   written-law false d = ap (clip (M d)) (narrow (S d) 219 16 ∙ sym (+ℤ-idr _))
 
-  written-chroma-law : (f : Bool) (d : ChromaDepth) → writtenChroma f d e ≡ wroteLevel (targetOf f (chromaScale f d) (d .0)) z n
+  written-chroma-law : (f : Bool) (d : ChromaDepth) → writtenChroma f d e ≡ wroteLevel (writerOf f (chromaScale f d) (d .0)) z n
   written-chroma-law true d = ap (λ x. clip (M (d .0)) (x +ℤ pos (H (d .0)))) (full (M (d .0)))
   written-chroma-law false d = ap (clip (M (d .0))) (narrow (S (d .0)) 224 128 ∙ sym (+ℤ-idr _))
 
@@ -74,12 +74,12 @@ line-numbers : (t m n o q u0 u1 u2 d0 d1 d2 x y z k : ℕ)
     + (t * (m * d0) * x + t * (n * d1) * y + t * (n * d2) * z + (t * (m * u0) * o + t * (n * u1) * q + t * (n * u2) * q))
 line-numbers t m n o q u0 u1 u2 d0 d1 d2 x y z k = simp ring (omega arith)
 
--- a row's sum over what three samples stand for
-abbrev pub rowAt : Row → Sources → Pixel → ℤ
-rowAt w from p = sumOf w (read (from .first) (p .p0)) (read (from .rest) (p .p1)) (read (from .rest) (p .p2))
+-- an equation's sum over what three samples stand for
+abbrev pub equationAt : Equation → Readers → Pixel → ℤ
+equationAt w from p = sumOf w (read (from .first) (p .p0)) (read (from .rest) (p .p1)) (read (from .rest) (p .p2))
 
-line-law : (w : Row) (from : Sources) (to : Target) (p : Pixel)
-    → lineAt (lineOf w from to) p ≡ pos (to .times) *ℤ rowAt w from p +ℤ pos (to .plus * (w .over * from .common))
+line-law : (w : Equation) (from : Readers) (to : Writer) (p : Pixel)
+    → lineAt (lineOf w from to) p ≡ pos (to .times) *ℤ equationAt w from p +ℤ pos (to .plus * (w .over * from .common))
 line-law w from to p =
     let f = from .first in
     let g = from .rest in
@@ -87,15 +87,15 @@ line-law w from to p =
     (line-numbers (to .times) (f .mul) (g .mul) (f .plus) (g .plus) (w .up0) (w .up1) (w .up2) (w .down0) (w .down1) (w .down2)
     (p .p0) (p .p1) (p .p2) (to .plus * (w .over * from .common)))
 
-sample-law : (w : Row) (from : Sources) (to : Target) (p : Pixel)
-    → lineSample (lineOf w from to) p ≡ wroteLevel to (rowAt w from p) (w .over * from .common)
+sample-law : (w : Equation) (from : Readers) (to : Writer) (p : Pixel)
+    → lineSample (lineOf w from to) p ≡ wroteLevel to (equationAt w from p) (w .over * from .common)
 sample-law w from to p =
     ap (λ x. clip (to .top) (round x (w .over * from .common) +ℤ pos (to .mid))) (line-law w from to p)
 
--- The two closing laws: where a level has a row's value, the row's line gives the sample that the level is written as.
-module _ (w : Row) (from : Sources) (p : Pixel) {e : Frac} (v : Value e (rowAt w from p) (w .over * from .common)) (some : 0 < w .over * from .common) where
-  pub light-sample : (f : Bool) (d : ℕ) → lineSample (lineOf w from (targetOf f (lightScale f d) d)) p ≡ written f d e
-  light-sample f d = sample-law w from (targetOf f (lightScale f d) d) p ∙ sym (written-law v some f d)
+-- The two closing laws: where a level has an equation's value, the equation's line gives the sample that the level is written as.
+module _ (w : Equation) (from : Readers) (p : Pixel) {e : Frac} (v : Value e (equationAt w from p) (w .over * from .common)) (some : 0 < w .over * from .common) where
+  pub light-sample : (f : Bool) (d : ℕ) → lineSample (lineOf w from (writerOf f (lightScale f d) d)) p ≡ written f d e
+  light-sample f d = sample-law w from (writerOf f (lightScale f d) d) p ∙ sym (written-law v some f d)
 
-  pub chroma-sample : (f : Bool) (d : ChromaDepth) → lineSample (lineOf w from (targetOf f (chromaScale f d) (d .0))) p ≡ writtenChroma f d e
-  chroma-sample f d = sample-law w from (targetOf f (chromaScale f d) (d .0)) p ∙ sym (written-chroma-law v some f d)
+  pub chroma-sample : (f : Bool) (d : ChromaDepth) → lineSample (lineOf w from (writerOf f (chromaScale f d) (d .0))) p ≡ writtenChroma f d e
+  chroma-sample f d = sample-law w from (writerOf f (chromaScale f d) (d .0)) p ∙ sym (written-chroma-law v some f d)

@@ -3,13 +3,16 @@ use mathlib.Core.Path.{_≡_}
 use Prim.Native.Nat.{ℕ, _+_, _*_, _≤_, _<_}
 use Rattle.rounding.specs.Quotient.{Divides}
 use Rattle.rounding.specs.declared.quotient.Divisor.{Divisor}
-use Rattle.levels.specs.Luma.{mostSample}
-use Rattle.levels.specs.declared.Scale.{Scale}
-use Rattle.levels.specs.declared.Line.{Line}
-use Rattle.levels.specs.declared.Lines.{Lines}
-use Rattle.levels.specs.declared.rows.Row.{Row}
-use Rattle.levels.specs.declared.prepared.Sources.{Sources}
-use Rattle.levels.specs.declared.prepared.Target.{Target}
+use Rattle.scale.specs.declared.Scale.{Scale}
+use Rattle.levels.specs.Conversion.{total, mostTotal, mostSample}
+use Rattle.levels.specs.Lines.{lineOf}
+use Rattle.levels.specs.declared.equations.Equation.{Equation}
+use Rattle.levels.specs.declared.equations.Equations.{Equations}
+use Rattle.levels.specs.declared.lines.Line.{Line}
+use Rattle.levels.specs.declared.lines.Lines.{Lines}
+use Rattle.levels.specs.declared.lines.ReadyLine.{ReadyLine}
+use Rattle.levels.specs.declared.lines.Readers.{Readers}
+use Rattle.levels.specs.declared.lines.Writer.{Writer}
 
 abbrev pub mostNumerator : ℕ
 mostNumerator = 9100000000000000000
@@ -17,29 +20,22 @@ mostNumerator = 9100000000000000000
 abbrev pub mostDenominator : ℕ
 mostDenominator = 100000000000000000
 
--- all that a row adds and takes away, and the most that it may be: 5/4 of the square of the whole, in ten-thousandths
-abbrev pub total : Row → ℕ
-total w = w .up0 + w .up1 + w .up2 + w .down0 + w .down1 + w .down2
-
-abbrev pub mostTotal : ℕ
-mostTotal = 125000000
-
--- a scale of a depth that a luma matrix serves
+-- a scale of a depth that a level matrix serves
 pub record ScaleServed (s : Scale) : Type 0 where
   pub some : 0 < s .times
   pub times-in : s .times ≤ mostSample
   pub plus-in : s .plus ≤ mostSample
 
--- a row and samples that have room when the row is spread
-pub record SpreadServed (w : Row) (from : Sources) (times : ℕ) : Type 0 where
+-- an equation and samples that have room when the equation is spread
+pub record SpreadServed (w : Equation) (from : Readers) (times : ℕ) : Type 0 where
   pub first-in : from .first .mul ≤ mostSample
   pub rest-in : from .rest .mul ≤ mostSample
   pub times-in : times ≤ mostSample
   pub total-in : total w ≤ mostTotal
   pub over-in : w .over * from .common ≤ mostDenominator
 
--- a row, samples and a plane that have room as a line
-pub record LineServed (w : Row) (from : Sources) (to : Target) : Type 0 where
+-- an equation, samples and a plane that have room as a line
+pub record LineServed (w : Equation) (from : Readers) (to : Writer) : Type 0 where
   pub spreads : SpreadServed w from (to .times)
   pub first-plus : from .first .plus ≤ mostSample
   pub rest-plus : from .rest .plus ≤ mostSample
@@ -48,21 +44,32 @@ pub record LineServed (w : Row) (from : Sources) (to : Target) : Type 0 where
   pub over-some : 0 < w .over * from .common
   pub added-in : to .plus * (w .over * from .common) ≤ 500000000000000000
 
--- a line that has room at every pixel, and three such lines
+-- a line that has room at every pixel
 pub record Room (l : Line) : Type 0 where
-  pub up-fits : mostSample * (l .row .up0 + l .row .up1 + l .row .up2) + l .up ≤ mostNumerator
-  pub down-fits : mostSample * (l .row .down0 + l .row .down1 + l .row .down2) + l .down ≤ mostNumerator
-  pub over-fits : l .row .over ≤ mostDenominator
-  pub over-some : 0 < l .row .over
+  pub up-fits : mostSample * (l .equation .up0 + l .equation .up1 + l .equation .up2) + l .up ≤ mostNumerator
+  pub down-fits : mostSample * (l .equation .down0 + l .equation .down1 + l .equation .down2) + l .down ≤ mostNumerator
+  pub over-fits : l .equation .over ≤ mostDenominator
+  pub over-some : 0 < l .equation .over
   pub mid-in : l .mid ≤ l .top
   pub top-in : l .top ≤ mostSample
 
-pub record Rooms (l : Lines) : Type 0 where
-  pub first : Room (l .first)
-  pub second : Room (l .second)
-  pub third : Room (l .third)
+-- with what stands for its divisor, which is twice its denominator; and three such lines
+pub record Ready (l : ReadyLine) : Type 0 where
+  pub room : Room (l .line)
+  pub divides : Divides (l .by)
+  pub twice : l .by .over ≡ 2 * l .line .equation .over
 
--- what stands for the divisor of a line, which is twice its denominator
-pub record StandsFor (l : Line) (d : Divisor) : Type 0 where
-  pub divides : Divides d
-  pub twice : d .over ≡ 2 * l .row .over
+pub record AllReady (l : Lines) : Type 0 where
+  pub first : Ready (l .first)
+  pub second : Ready (l .second)
+  pub third : Ready (l .third)
+
+-- the ready line of an equation, and those of three
+pub record Lined (w : Equation) (from : Readers) (to : Writer) (l : ReadyLine) : Type 0 where
+  pub is : l .line ≡ lineOf w from to
+  pub ready : Ready l
+
+pub record Prepared (e : Equations) (from : Readers) (light colour : Writer) (l : Lines) : Type 0 where
+  pub first : Lined (e .first) from light (l .first)
+  pub second : Lined (e .second) from colour (l .second)
+  pub third : Lined (e .third) from colour (l .third)

@@ -1,42 +1,32 @@
 // A pixel by the prepared lines of its setting: three sums, and no division.
-use crate::Line;
-use crate::Lines;
-use rounding::quotient::Divisor;
+use crate::lines::Lines;
+use crate::lines::ReadyLine;
 use sample::Pixel;
 ghost use mathlib.Core.Path.{_≡_};
-ghost use Rattle.levels.specs.Luma.{SamplesServed};
+ghost use Rattle.levels.specs.Conversion.{SamplesServed};
 ghost use Rattle.levels.specs.Lines.{lineSample, linesPixel};
-ghost use Rattle.levels.specs.Room.{Room, Rooms, StandsFor};
+ghost use Rattle.levels.specs.Room.{Ready, AllReady};
 
-// What stands for a line's divisor, which is twice its denominator. It is worked out once for many pixels.
-pub fn divisor_of(l: Line) -> Divisor
-    requires { ⌜ Room l ⌝ }
-    ensures { λ r. ⌜ StandsFor l r ⌝ }
-{
-    let row = l.row;
-    let den = row.over;
-    rounding::quotient::divisor_of(2 * den)
-}
-
-// One sample by its line. All six kinds of sample come from here.
-pub fn sample_by(l: Line, by: Divisor, p: Pixel) -> u16
-    requires { ⌜ Room l ⌝ }
-    requires { ⌜ StandsFor l by ⌝ }
+// One sample by its line. All kinds of sample come from here.
+pub fn sample_of(l: ReadyLine, p: Pixel) -> u16
+    requires { ⌜ Ready l ⌝ }
     requires { ⌜ SamplesServed p ⌝ }
-    ensures { λ r. ⌜ r ≡ lineSample l p ⌝ }
+    ensures { λ r. ⌜ r ≡ lineSample (l .line) p ⌝ }
 {
-    let row = l.row;
-    let up = l.up;
-    let down = l.down;
-    let mid = l.mid;
-    let top = l.top;
-    let u0 = row.up0;
-    let u1 = row.up1;
-    let u2 = row.up2;
-    let d0 = row.down0;
-    let d1 = row.down1;
-    let d2 = row.down2;
-    let den = row.over;
+    let line = l.line;
+    let by = l.by;
+    let equation = line.equation;
+    let up = line.up;
+    let down = line.down;
+    let mid = line.mid;
+    let top = line.top;
+    let u0 = equation.up0;
+    let u1 = equation.up1;
+    let u2 = equation.up2;
+    let d0 = equation.down0;
+    let d1 = equation.down1;
+    let d2 = equation.down2;
+    let den = equation.over;
     let x = p.p0 as u64;
     let y = p.p1 as u64;
     let z = p.p2 as u64;
@@ -45,19 +35,9 @@ pub fn sample_by(l: Line, by: Divisor, p: Pixel) -> u16
     rounding::round_clip_by(plus, minus, den, by, mid, top)
 }
 
-// One sample of one pixel alone.
-fn sample_of(l: Line, p: Pixel) -> u16
-    requires { ⌜ Room l ⌝ }
-    requires { ⌜ SamplesServed p ⌝ }
-    ensures { λ r. ⌜ r ≡ lineSample l p ⌝ }
-{
-    let by = divisor_of(l);
-    sample_by(l, by, p)
-}
-
 // The three samples of a pixel.
 pub fn pixel_of(lines: Lines, p: Pixel) -> Pixel
-    requires { ⌜ Rooms lines ⌝ }
+    requires { ⌜ AllReady lines ⌝ }
     requires { ⌜ SamplesServed p ⌝ }
     ensures { λ r. ⌜ r ≡ linesPixel lines p ⌝ }
 {

@@ -23,8 +23,8 @@ leastDepth = 8
 abbrev pub mostDepth : ℕ
 mostDepth = 16
 
-abbrev pub mostLumaMatrixDepth : ℕ
-mostLumaMatrixDepth = 12
+abbrev pub mostLevelDepth : ℕ
+mostLevelDepth = 12
 
 -- whether n is a depth
 unfoldable pub isDepth : ℕ → Bool

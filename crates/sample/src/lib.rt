@@ -15,7 +15,7 @@ pub const LEAST_DEPTH: u8 = 8;
 
 pub const MOST_DEPTH: u8 = 16;
 
-pub const MOST_LUMA_MATRIX_DEPTH: u8 = 12;
+pub const MOST_LEVEL_DEPTH: u8 = 12;
 
 pub struct RgbDepth(pub u8);
 

@@ -2,7 +2,7 @@
 use mathlib.Core.Bool.{Bool, true, false, _&&_, _||_, not}
 use Prim.Native.Nat.{ℕ, _+_}
 use lib.Dec.{eqb}
-use Rattle.sample.specs.Depth.{mostDepth, mostLumaMatrixDepth, areDepths, atMost, depthsOf}
+use Rattle.sample.specs.Depth.{mostDepth, mostLevelDepth, areDepths, atMost, depthsOf}
 use Rattle.sample.specs.declared.Depths.{Depths}
 use Rattle.setting.specs.declared.matrix.Family.{Family}
 use Rattle.setting.specs.declared.matrix.Family.the-variants.{Identity, Luma, YCgCo, YCgCoR}
@@ -10,7 +10,7 @@ use Rattle.setting.specs.declared.matrix.Family.the-variants.{Identity, 
 -- the deepest sample that a family serves
 abbrev pub mostFor : Family → ℕ
 mostFor Identity = mostDepth
-mostFor (Luma k) = mostLumaMatrixDepth
+mostFor (Luma k) = mostLevelDepth
 mostFor YCgCo = mostDepth
 mostFor (YCgCoR n) = mostDepth
 

@@ -75,7 +75,7 @@ fn most_for(family: Family) -> u8
 {
     match family {
         Family::Identity => sample::MOST_DEPTH,
-        Family::Luma(_) => sample::MOST_LUMA_MATRIX_DEPTH,
+        Family::Luma(_) => sample::MOST_LEVEL_DEPTH,
         Family::YCgCo => sample::MOST_DEPTH,
         Family::YCgCoR(_) => sample::MOST_DEPTH,
     }

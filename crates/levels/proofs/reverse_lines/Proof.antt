@@ -1,66 +1,46 @@
--- `levels::reverse_lines` meets its contract: what it makes each line of is what the definition does, and the line has room.
-use mathlib.Core.Path.{_≡_, _∙_, ap}
+-- `levels::reverse_lines` meets its contract: what it reads and writes by is what the definition does, and each line has room.
+use mathlib.Core.Path.{_≡_, ap, _∙_}
 use borrow.Author.Needs.{needs}
-use Rattle.levels.specs.Luma.{lumaOf, chromaOf}
-use Rattle.levels.specs.Rows.{rowR, rowG, rowB}
-use Rattle.levels.specs.Lines.{targetOf, sourcesOfYcc, rgbTarget, reverseLines}
-use Rattle.levels.proofs.Bounds.{r-served, g-served, b-served}
-use Rattle.levels.proofs.Served.{luma-served, chroma-served, into-rgb, line-made, line-served}
+use Rattle.levels.specs.Conversion.{lumaOf, chromaOf}
+use Rattle.levels.specs.Lines.{readersOfYcc, writerOf, rgbWriter}
+use Rattle.levels.proofs.Served.{served-as, prepared-as, luma-served, chroma-served, into-rgb}
 use Rattle.levels.proofs.reverse_lines.Statement.{statement}
 use Rattle.levels.proofs.reverse_lines.Tie as tie
 
--- what stands ready before the first line
-abbrev start : tie.After-row-b → tie.Start
-start c = c .before .before .before .before .before .before .before .before .before .before .before .before .before
+module _ (c : tie.After-writer-of) where
+  abbrev start : tie.Start
+  start = c .before .before .before .before .before .before .before .before .before
 
-from-is : (c : tie.After-row-b) → c .before .before .before .before .before .sources-of-ycc .result ≡ sourcesOfYcc (lumaOf (start c .args .s)) (chromaOf (start c .args .s))
-from-is c = c .before .before .before .before .before .sources-of-ycc .ensures ∙ (λ i. sourcesOfYcc (c .before .before .before .before .before .before .before .luma-scale .ensures i) (c .before .before .before .before .before .before .chroma-scale .ensures i))
+  from-is : c .before .before .readers-of-ycc .result ≡ readersOfYcc (lumaOf (start .args .s)) (chromaOf (start .args .s))
+  from-is =
+      c .before .before .readers-of-ycc .ensures
+      ∙ (λ i. readersOfYcc (c .before .before .before .before .luma-scale .ensures i) (c .before .before .before .chroma-scale .ensures i))
 
-rgb-is : (c : tie.After-row-b) → c .before .before .before .target-of .result ≡ rgbTarget (start c .args .s)
-rgb-is c = c .before .before .before .target-of .ensures ∙ ap (λ s. targetOf (start c .args .s .«rgb_full») s (start c .args .s .depths .rgb .0)) (c .before .before .before .before .rgb-scale .ensures)
+  to-is : c .writer-of .result ≡ rgbWriter (start .args .s)
+  to-is = c .writer-of .ensures ∙ ap (λ x. writerOf (start .args .s .«rgb_full») x (start .args .s .depths .rgb .0)) (c .before .rgb-scale .ensures)
 
-sources-of-ycc-requires : tie.Need-sources-of-ycc-requires
-sources-of-ycc-requires c κs =
-    let s = c .before .before .before .before .before .before .before in
-    (rw (c .before .luma-scale .ensures) (luma-served (s .args .s) (s .pre)), rw (c .chroma-scale .ensures) (chroma-served (s .args .s) (s .pre)))
+readers-of-ycc-requires : tie.Need-readers-of-ycc-requires
+readers-of-ycc-requires c κs =
+    let s = c .before .before .before .before .before .before in
+    (rw (c .before .luma-scale .ensures) (luma-served (s .args .s) (s .pre .1)), rw (c .chroma-scale .ensures) (chroma-served (s .args .s) (s .pre .1)))
 
-row-r-requires : tie.Need-row-r-requires
-row-r-requires c κs = c .before .before .before .before .before .before .before .before .before .before .pre .shares
-
-row-g-requires : tie.Need-row-g-requires
-row-g-requires c κs = c .before .before .before .before .before .before .before .before .before .before .before .pre .shares
-
-row-b-requires : tie.Need-row-b-requires
-row-b-requires c κs = c .before .before .before .before .before .before .before .before .before .before .before .before .pre .shares
-
-line-of-requires : tie.Need-line-of-requires
-line-of-requires c κs =
+lines-of-requires : tie.Need-lines-of-requires
+lines-of-requires c κs =
     let s = start c in
-    line-served (c .before .before .row-r .ensures) (from-is c) (rgb-is c)
-    (into-rgb (s .args .s) (s .pre) (rowR (s .args .s .weights)) (r-served (s .args .s .weights) (s .pre .shares)))
-
-line-of-requires-2 : tie.Need-line-of-requires-2
-line-of-requires-2 c κs =
-    let s = start (c .before) in
-    line-served (c .before .before .row-g .ensures) (from-is (c .before)) (rgb-is (c .before))
-    (into-rgb (s .args .s) (s .pre) (rowG (s .args .s .weights)) (g-served (s .args .s .weights) (s .pre .shares)))
-
-line-of-requires-3 : tie.Need-line-of-requires-3
-line-of-requires-3 c κs =
-    let s = start (c .before .before) in
-    line-served (c .before .before .row-b .ensures) (from-is (c .before .before)) (rgb-is (c .before .before))
-    (into-rgb (s .args .s) (s .pre) (rowB (s .args .s .weights)) (b-served (s .args .s .weights) (s .pre .shares)))
+    let e = s .pre .0 in
+    let h = s .pre .1 in (
+      served-as (from-is c) (to-is c) (into-rgb (s .args .s) h _ (e .first)),
+      (
+        served-as (from-is c) (to-is c) (into-rgb (s .args .s) h _ (e .second)),
+        served-as (from-is c) (to-is c) (into-rgb (s .args .s) h _ (e .third)),
+      ),
+    )
 
 returns : tie.Need-returns
-unfolding reverseLines
-returns c =
-    let e = c .before .before .before in
-    λ i.
-    record {
-      first = line-made (e .before .before .row-r .ensures) (from-is e) (rgb-is e) (c .before .before .line-of .ensures) i;
-      second = line-made (e .before .row-g .ensures) (from-is e) (rgb-is e) (c .before .line-of2 .ensures) i;
-      third = line-made (e .row-b .ensures) (from-is e) (rgb-is e) (c .line-of3 .ensures) i;
-    }
+returns c = let e = c .before in prepared-as (from-is e) (to-is e) (to-is e) (c .lines-of .ensures)
 
 pub reverse-lines-spec : {M : Type 1} → statement M
-reverse-lines-spec = tie.close (tie.spec (λ c κs. search needs) (λ c κs. search needs) sources-of-ycc-requires (λ c κs. search needs) (λ c κs. search needs) row-r-requires row-g-requires row-b-requires line-of-requires line-of-requires-2 line-of-requires-3 returns)
+reverse-lines-spec =
+    tie.close
+    (tie.spec (λ c κs. search needs) (λ c κs. search needs) readers-of-ycc-requires (λ c κs. search needs)
+    (λ c κs. search needs) lines-of-requires returns)

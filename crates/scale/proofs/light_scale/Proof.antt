@@ -1,7 +1,7 @@
--- `levels::light_scale` meets its contract, by its two cases.
+-- `scale::light_scale` meets its contract, by its two cases.
 use borrow.Author.Needs.{needs}
-use Rattle.levels.proofs.light_scale.Statement.{statement}
-use Rattle.levels.proofs.light_scale.Tie as tie
+use Rattle.scale.proofs.light_scale.Statement.{statement}
+use Rattle.scale.proofs.light_scale.Tie as tie
 
 returns : tie.Need-returns
 returns c = rw (c .before .if1 .taken, c .largest .ensures)

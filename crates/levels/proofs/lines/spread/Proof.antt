@@ -1,9 +1,9 @@
--- `levels::prepared::spread` meets its contract: each weight is bounded, read, and written.
+-- `levels::lines::spread` meets its contract: each weight is bounded, read, and written.
 use native.Mathlib.Omega.{arith}
 use borrow.Author.Needs.{needs}
 use Rattle.levels.proofs.Bounds.{Spread, spread-bounds}
-use Rattle.levels.proofs.prepared.spread.Statement.{statement}
-use Rattle.levels.proofs.prepared.spread.Tie as tie
+use Rattle.levels.proofs.lines.spread.Statement.{statement}
+use Rattle.levels.proofs.lines.spread.Tie as tie
 
 known : (s : tie.Start) → Spread (s .args .w) (s .args .from) (s .args .times)
 known s = spread-bounds (s .pre)

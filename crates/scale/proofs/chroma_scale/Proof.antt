@@ -1,7 +1,7 @@
--- `levels::chroma_scale` meets its contract, by its two cases.
+-- `scale::chroma_scale` meets its contract, by its two cases.
 use borrow.Author.Needs.{needs}
-use Rattle.levels.proofs.chroma_scale.Statement.{statement}
-use Rattle.levels.proofs.chroma_scale.Tie as tie
+use Rattle.scale.proofs.chroma_scale.Statement.{statement}
+use Rattle.scale.proofs.chroma_scale.Tie as tie
 
 returns : tie.Need-returns
 returns c = rw (c .before .before .if1 .taken, c .before .largest .ensures, c .power .ensures .is)

@@ -1,9 +1,9 @@
--- `levels::prepared::line_of` meets its contract: the spread weights, times what the scales take away, have room.
+-- `levels::lines::line_of` meets its contract: the spread weights, times what the scales take away, have room.
 use native.Mathlib.Omega.{arith}
 use borrow.Author.Needs.{needs}
 use Rattle.levels.proofs.Bounds.{LineBounds, line-bounds}
-use Rattle.levels.proofs.prepared.line_of.Statement.{statement}
-use Rattle.levels.proofs.prepared.line_of.Tie as tie
+use Rattle.levels.proofs.lines.line_of.Statement.{statement}
+use Rattle.levels.proofs.lines.line_of.Tie as tie
 
 known : (s : tie.Start) → LineBounds (s .args .w) (s .args .from) (s .args .to)
 known s = line-bounds (s .pre)
