@@ -1,4 +1,4 @@
--- Depths: their two ends, and the upper end for a luma matrix. No other definition has these three numbers.
+-- Depths: their two ends, and the upper end for a level matrix. No other definition has these three numbers.
 use mathlib.Core.Path.{_≡_}
 use mathlib.Core.Bool.{Bool, _&&_, cond}
 use Prim.Native.Nat.{ℕ, _-_, _^_, _≤_, _<_}
@@ -8,6 +8,8 @@ use Rattle.sample.specs.declared.LumaDepth.{LumaDepth}
 use Rattle.sample.specs.declared.ChromaDepth.{ChromaDepth}
 use Rattle.sample.specs.declared.Depths.{Depths}
 use Rattle.sample.specs.declared.Pixel.{Pixel}
+use Rattle.sample.specs.declared.Side.{Side}
+use Rattle.sample.specs.declared.Side.the-variants as side
 use Rattle.sample.specs.declared.RgbChecked.{RgbChecked}
 use Rattle.sample.specs.declared.RgbChecked.the-variants as rgb
 use Rattle.sample.specs.declared.LumaChecked.{LumaChecked}
@@ -30,7 +32,7 @@ mostLevelDepth = 12
 unfoldable pub isDepth : ℕ → Bool
 isDepth n = leb leastDepth n && leb n mostDepth
 
--- the same as a fact
+-- n is a depth
 pub record Depth (n : ℕ) : Type 0 where
   pub least : leastDepth ≤ n
   pub most : n ≤ mostDepth
@@ -62,7 +64,7 @@ chromaChecked n = cond (isDepth n) (chroma.Depth (chromaDepth n)) chroma.Outside
 unfoldable pub areDepths : ℕ → ℕ → ℕ → Bool
 areDepths r y c = isDepth r && (isDepth y && isDepth c)
 
--- the same as a fact
+-- and that they are
 pub record ThreeDepths (d : Depths) : Type 0 where
   pub rgb : Depth (d .rgb .0)
   pub luma : Depth (d .luma .0)
@@ -100,3 +102,13 @@ InsideRGB d p = Inside (d .rgb .0) (d .rgb .0) (d .rgb .0) p
 
 abbrev pub InsideYCC : Depths → Pixel → Type 0
 InsideYCC d p = Inside (d .luma .0) (d .chroma .0) (d .chroma .0) p
+
+-- the same of the side of a setting that the pixel belongs to
+abbrev pub InsideOf : Side → Depths → Pixel → Type 0
+InsideOf side.Rgb d p = InsideRGB d p
+InsideOf side.Ycc d p = InsideYCC d p
+
+-- the largest sample of each plane of a side
+abbrev pub tops : Side → Depths → Pixel
+tops side.Rgb d = record { p0 = M (d .rgb .0); p1 = M (d .rgb .0); p2 = M (d .rgb .0) }
+tops side.Ycc d = record { p0 = M (d .luma .0); p1 = M (d .chroma .0); p2 = M (d .chroma .0) }

@@ -1,7 +1,7 @@
 // What every crate above speaks of: depths of three kinds that cannot be taken for each other, and a pixel.
 ghost use mathlib.Core.Path.{_≡_};
 ghost use Prim.Native.Nat.{_≤_, _<_};
-ghost use Rattle.sample.specs.Depth.{mostDepth, M, rgbChecked, lumaChecked, chromaChecked, depthsChecked, atMost, Power};
+ghost use Rattle.sample.specs.Depth.{mostDepth, M, rgbChecked, lumaChecked, chromaChecked, depthsChecked, ThreeDepths, atMost, Power, tops};
 
 // Three samples, by plane: R, G, B on one side and Y, Cb, Cr on the other.
 pub struct Pixel {
@@ -10,7 +10,13 @@ pub struct Pixel {
     pub p2: u16,
 }
 
-// The two ends of every depth, and the upper end for a luma matrix.
+// The two sides of a setting.
+pub enum Side {
+    Rgb,
+    Ycc,
+}
+
+// The two ends of every depth, and the upper end for a level matrix.
 pub const LEAST_DEPTH: u8 = 8;
 
 pub const MOST_DEPTH: u8 = 16;
@@ -139,6 +145,28 @@ impl Depths {
             return DepthsChecked::Outside;
         };
         DepthsChecked::Depths(Depths { rgb, luma, chroma })
+    }
+
+    // The largest sample of each plane of a side.
+    pub fn tops(self, side: Side) -> Pixel
+        requires { ⌜ ThreeDepths self ⌝ }
+        ensures { λ r. ⌜ r ≡ tops side self ⌝ }
+    {
+        let rgb = self.rgb.largest();
+        let luma = self.luma.largest();
+        let chroma = self.chroma.largest();
+        match side {
+            Side::Rgb => Pixel {
+                p0: rgb,
+                p1: rgb,
+                p2: rgb,
+            },
+            Side::Ycc => Pixel {
+                p0: luma,
+                p1: chroma,
+                p2: chroma,
+            },
+        }
     }
 
     // Whether no depth is above `most`.

@@ -1,4 +1,4 @@
 -- Laws of settings.
+pub mod Codes
 pub mod LabelLaws
-pub mod Ranges
-pub mod RefusalLaws
+pub mod ReadyLaws

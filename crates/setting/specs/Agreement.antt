@@ -1,47 +1,46 @@
--- Which depths and flags agree with a family of formulas, and which settings are lossless.
-use mathlib.Core.Bool.{Bool, true, false, _&&_, _||_, not}
+-- Which depths and flags agree with an entry of the table of matrices, where it is lossless, and which calls it answers.
+use mathlib.Core.Bool.{Bool, true, false, _&&_, not}
 use Prim.Native.Nat.{ℕ, _+_}
-use lib.Dec.{eqb}
-use Rattle.sample.specs.Depth.{mostDepth, mostLevelDepth, areDepths, atMost, depthsOf}
+use lib.Dec.{eqb, leb}
+use Rattle.sample.specs.Depth.{areDepths, atMost, depthsOf}
 use Rattle.sample.specs.declared.Depths.{Depths}
-use Rattle.setting.specs.declared.matrix.Family.{Family}
-use Rattle.setting.specs.declared.matrix.Family.the-variants.{Identity, Luma, YCgCo, YCgCoR}
+use Rattle.setting.specs.declared.Call.{Call}
+use Rattle.setting.specs.declared.Call.the-variants.{Convert, Meter, ImageCheck}
+use Rattle.setting.specs.declared.matrix.Bond.{Bond}
+use Rattle.setting.specs.declared.matrix.Bond.the-variants.{Bits, Free}
+use Rattle.setting.specs.declared.matrix.Entry.{Entry}
+use Rattle.setting.specs.declared.matrix.Lossless.{Lossless}
+use Rattle.setting.specs.declared.matrix.Lossless.the-variants.{From, Never}
 
--- the deepest sample that a family serves
-abbrev pub mostFor : Family → ℕ
-mostFor Identity = mostDepth
-mostFor (Luma k) = mostLevelDepth
-mostFor YCgCo = mostDepth
-mostFor (YCgCoR n) = mostDepth
-
--- row 6 speaks of depths for which this is false
-unfoldable pub depthsServed : Family → ℕ → ℕ → ℕ → Bool
-depthsServed f r y c = areDepths r y c && atMost (mostFor f) (depthsOf r y c)
+-- rule 6 speaks of depths for which this is false
+unfoldable pub depthsServed : ℕ → ℕ → ℕ → ℕ → Bool
+depthsServed deepest r y c = areDepths r y c && atMost deepest (depthsOf r y c)
 
 -- both flags full or both narrow
 abbrev pub same : Bool → Bool → Bool
 same true b = b
 same false b = not b
 
--- row 7 speaks of depths and flags for which this is false
-abbrev pub agree : Family → Depths → Bool → Bool → Bool
-agree Identity d rgbFull yccFull = eqb (d .rgb .0) (d .luma .0) && (eqb (d .luma .0) (d .chroma .0) && same rgbFull yccFull)
-agree (Luma k) d rgbFull yccFull = eqb (d .chroma .0) (d .luma .0)
-agree YCgCo d rgbFull yccFull =
-    eqb (d .rgb .0) (d .luma .0)
-    && ((eqb (d .chroma .0) (d .luma .0) || eqb (d .chroma .0) (d .luma .0 + 1)) && same rgbFull yccFull)
-agree (YCgCoR added) d rgbFull yccFull =
-    eqb (d .luma .0) (d .chroma .0) && (eqb (d .chroma .0) (d .rgb .0 + added) && same rgbFull yccFull)
+-- the RGB side goes with the other
+abbrev pub bonded : Bond → Depths → Bool → Bool → Bool
+bonded (Bits n) d rgbFull yccFull = eqb (d .luma .0) (d .rgb .0 + n) && same rgbFull yccFull
+bonded Free d rgbFull yccFull = true
+
+-- chroma is as deep as Y, or deeper by some bits at most
+abbrev pub deeperBy : ℕ → ℕ → ℕ → Bool
+deeperBy most luma chroma = leb luma chroma && leb chroma (luma + most)
+
+-- rule 7 speaks of depths and flags for which this is false
+unfoldable pub agree : Entry → Depths → Bool → Bool → Bool
+agree e d rgbFull yccFull = bonded (e .bond) d rgbFull yccFull && deeperBy (e .«chroma_bits») (d .luma .0) (d .chroma .0)
 
 -- of the settings that agree, those that lose nothing
-abbrev pub isLossless : Family → Depths → Bool
-isLossless Identity d = true
-isLossless (Luma k) d = false
-isLossless YCgCo d = eqb (d .chroma .0) (d .luma .0 + 1)
-isLossless (YCgCoR added) d = true
+abbrev pub keeps : Lossless → Depths → Bool
+keeps (From n) d = leb (d .rgb .0 + n) (d .chroma .0)
+keeps Never d = false
 
-abbrev pub isLuma : Family → Bool
-isLuma Identity = false
-isLuma (Luma k) = true
-isLuma YCgCo = false
-isLuma (YCgCoR added) = false
+-- rule 11 speaks of calls for which this is false: the meter wants a level matrix, the image check a lossless setting
+abbrev pub answers : Call → Entry → Depths → Bool
+answers (Convert w) e d = true
+answers Meter e d = e .metered
+answers ImageCheck e d = keeps (e .lossless) d

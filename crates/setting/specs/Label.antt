@@ -34,7 +34,7 @@ transferLabel = labelled (span 1 1 ∷ span 4 18 ∷ [])
 
 -- a matrix's label follows from what its code means
 abbrev pub labelOf : Matrix → Label
-labelOf (Served f) = label.Assigned
+labelOf (Served e) = label.Assigned
 labelOf Unserved = label.Assigned
 labelOf Unspecified = label.Unspecified
 labelOf Reserved = label.Reserved

@@ -1,5 +1,7 @@
 -- Settings, in the order in which the rules speak of them.
+pub mod Call
 pub mod Matrix
 pub mod Label
 pub mod Agreement
-pub mod Refusals
+pub mod Rules
+pub mod Ready

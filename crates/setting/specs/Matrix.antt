@@ -1,36 +1,73 @@
--- H.273's table 4: the matrix of each code.
+-- H.273's table 4: the matrix of each code, as an entry of data.
+use mathlib.Core.Bool.{true, false}
 use mathlib.Core.List.{List, [], _∷_}
 use Prim.Native.Nat.{ℕ}
 use lib.ListN.{getD}
-use Rattle.levels.specs.Paper.{weights}
-use Rattle.setting.specs.declared.matrix.Family.the-variants.{Identity, Luma, YCgCo, YCgCoR}
+use Rattle.sample.specs.Depth.{mostDepth, mostLevelDepth}
+use Rattle.levels.specs.Equations.{weights, lumaMatrix}
+use Rattle.setting.specs.declared.matrix.Bond.the-variants.{Bits, Free}
+use Rattle.setting.specs.declared.matrix.Entry.{Entry}
+use Rattle.setting.specs.declared.matrix.Formulas.the-variants.{ChangePlaces, YCgCo, Levels}
+use Rattle.setting.specs.declared.matrix.Lossless.the-variants.{From, Never}
 use Rattle.setting.specs.declared.matrix.Matrix.{Matrix}
 use Rattle.setting.specs.declared.matrix.Matrix.the-variants.{Served, Unserved, Unspecified, Reserved}
 
+-- code 0
+abbrev pub changedPlaces : Entry
+changedPlaces =
+    record {
+      formulas = ChangePlaces;
+      deepest = mostDepth;
+      bond = Bits 0;
+      «chroma_bits» = 0;
+      lossless = From 0;
+      metered = false;
+    }
+
+-- YCgCo by the bits that Y has more than RGB, and the most that chroma may have more than Y
+abbrev pub ycgco : ℕ → ℕ → Entry
+ycgco yBits chromaBits =
+    record {
+      formulas = YCgCo;
+      deepest = mostDepth;
+      bond = Bits yBits;
+      «chroma_bits» = chromaBits;
+      lossless = From 1;
+      metered = false;
+    }
+
 -- a luma matrix by its KR and KB in ten-thousandths; KG is what is left of one
-abbrev pub lumaMatrix : ℕ → ℕ → Matrix
-lumaMatrix kr kb = Served (Luma (weights kr kb))
+abbrev pub lumaEntry : ℕ → ℕ → Entry
+lumaEntry kr kb =
+    record {
+      formulas = Levels (lumaMatrix (weights kr kb));
+      deepest = mostLevelDepth;
+      bond = Free;
+      «chroma_bits» = 0;
+      lossless = Never;
+      metered = true;
+    }
 
 -- codes 0 to 16 in their order
 abbrev pub matrices : List Matrix
 matrices =
-    Served Identity  -- 0
-    ∷ lumaMatrix 2126 722  -- 1
+    Served changedPlaces  -- 0
+    ∷ Served (lumaEntry 2126 722)  -- 1
     ∷ Unspecified  -- 2
     ∷ Reserved  -- 3
-    ∷ lumaMatrix 3000 1100  -- 4
-    ∷ lumaMatrix 2990 1140  -- 5
-    ∷ lumaMatrix 2990 1140  -- 6
-    ∷ lumaMatrix 2120 870  -- 7
-    ∷ Served YCgCo  -- 8
-    ∷ lumaMatrix 2627 593  -- 9
+    ∷ Served (lumaEntry 3000 1100)  -- 4
+    ∷ Served (lumaEntry 2990 1140)  -- 5
+    ∷ Served (lumaEntry 2990 1140)  -- 6
+    ∷ Served (lumaEntry 2120 870)  -- 7
+    ∷ Served (ycgco 0 1)  -- 8
+    ∷ Served (lumaEntry 2627 593)  -- 9
     ∷ Unserved  -- 10
     ∷ Unserved  -- 11
     ∷ Unserved  -- 12
     ∷ Unserved  -- 13
     ∷ Unserved  -- 14
-    ∷ Served (YCgCoR 2)  -- 15
-    ∷ Served (YCgCoR 1)  -- 16
+    ∷ Served (ycgco 2 0)  -- 15
+    ∷ Served (ycgco 1 0)  -- 16
     ∷ []
 
 -- every code after them is reserved

@@ -1,7 +1,11 @@
-// Settings: what the codes mean, and which of rows 1 to 7 and 11 of the refusal table applies first.
+// Settings: what the codes mean, and which of rules 1 to 7 and 11 refuses one first.
+pub mod admission;
 pub mod label;
 pub mod matrix;
-pub mod verdict;
+
+ghost use mathlib.Core.Path.{_≡_};
+ghost use Rattle.setting.specs.Call.{inputOf, reads};
+use sample::Side;
 
 // A setting as it is handed in: any numbers at all.
 pub struct Setting {
@@ -15,10 +19,36 @@ pub struct Setting {
     pub ycc_full: bool,
 }
 
-// What is asked of the box. Which refusals apply depends on it.
-pub enum Call {
+// R, G, B to Y, Cb, Cr, or back.
+pub enum Way {
     Forward,
     Reverse,
+}
+
+// What is asked of the box. Which refusals apply depends on it.
+pub enum Call {
+    Convert(Way),
     Meter,
     ImageCheck,
+}
+
+// The side that a conversion reads.
+fn input_of(way: Way) -> Side
+    ensures { λ r. ⌜ r ≡ inputOf way ⌝ }
+{
+    match way {
+        Way::Forward => Side::Rgb,
+        Way::Reverse => Side::Ycc,
+    }
+}
+
+// The side that a call reads.
+pub fn reads(call: Call) -> Side
+    ensures { λ r. ⌜ r ≡ reads call ⌝ }
+{
+    match call {
+        Call::Convert(way) => input_of(way),
+        Call::Meter => Side::Ycc,
+        Call::ImageCheck => Side::Ycc,
+    }
 }

@@ -1,9 +1,14 @@
--- `setting::label::primaries_label` meets its contract: the arms of the match are the spans of the definition.
-use mathlib.Core.Path.{_∙_}
-use mathlib.Core.Logic.{⊎-elim, inl, inr}
+-- `setting::label::primaries_label` meets its contract: an arm for one code has that code's label, and an arm for a range the label that every
+-- code has that the match has left for it.
+use mathlib.Core.Path.{refl}
+use mathlib.Core.Logic.{⊎-elim}
+use Prim.Native.Nat.{_<_}
 use native.Mathlib.Omega.{arith}
-use Rattle.setting.specs.Label.{among, labelled}
-use Rattle.setting.proofs.LabelLaws.{inside, past, none, is-assigned, is-reserved, from-4}
+use borrow.Author.Tests.{eqb-true}
+use lib.Dec.{eqb}
+use Rattle.setting.specs.Label.{among, labelled, primariesLabel, labelNumber}
+use Rattle.setting.proofs.Codes.{none, from, below, passed, both-passed, by-test}
+use Rattle.setting.proofs.LabelLaws.{assigned, reserved}
 use Rattle.setting.proofs.label.primaries_label.Statement.{statement}
 use Rattle.setting.proofs.label.primaries_label.Tie as tie
 
@@ -16,26 +21,20 @@ unfolding labelled among
 returns-2 c = ⊎-elim (λ e. rw e) (λ e. rw e) (c .match .keys1)
 
 returns-3 : tie.Need-returns-3
+unfolding labelled among
 returns-3 c =
-    let n = c .before .before .args .code in
-    let r = c .before .match .rest in
-    let l = from-4 n (λ e. r .1 (inl e)) (λ e. r .0 .0 .1 (inl e)) (r .0 .1) (λ e. r .1 (inr e)) in
-    is-assigned _ n (past 1 1 n _ (λ a b. omega arith) ∙ inside 4 12 n _ l (omega (arith, c .if1 .taken)))
+    let small : c .before .before .args .code < 256 = omega arith in
+    assigned _ (eqb-true _ _ (by-test (λ m. eqb (labelNumber (primariesLabel m)) 0) (below (both-passed (passed (both-passed (λ _. none))) (c .before .match .rest)) (c .if1 .taken)) small refl))
 
 returns-4 : tie.Need-returns-4
 unfolding labelled among
 returns-4 c = ⊎-elim (λ e. rw e) (λ e. rw e) (c .match .keys3)
 
 returns-5 : tie.Need-returns-5
+unfolding labelled among
 returns-5 c =
-    let n = c .before .before .args .code in
-    let r = c .before .match .rest in
-    is-reserved _ n
-    (past 1 1 n _ (λ a b. omega arith)
-    ∙ past 4 12 n _ (λ a b. omega arith)
-    ∙ past 22 22 n _ (λ a b. r .0 .0 .1 (inr (omega arith)))
-    ∙ none n)
-    (r .0 .1)
+    let small : c .before .before .args .code < 256 = omega arith in
+    reserved _ (eqb-true _ _ (by-test (λ m. eqb (labelNumber (primariesLabel m)) 2) (from (both-passed (passed (both-passed (λ _. none))) (c .before .match .rest)) (c .if1 .left)) small refl))
 
 pub primaries-label-spec : {M : Type 1} → statement M
 primaries-label-spec = tie.close (tie.spec returns returns-2 returns-3 returns-4 returns-5)

@@ -1,84 +1,63 @@
--- `setting::matrix::matrix_of` meets its contract: the arms of the match are the entries of the table.
-use mathlib.Core.Path.{_≡_, refl, sym}
-use Prim.Native.Nat.{ℕ, _≤_}
+-- `setting::matrix::matrix_of` meets its contract: an arm for one code is that code's entry of the table, and an arm for a range is what the
+-- table has at every code that the match has left for it.
+use mathlib.Core.Path.{_≡_, refl, ap}
+use Prim.Native.Nat.{_<_}
 use native.Mathlib.Omega.{arith}
 use borrow.Author.Needs.{needs}
-use lib.ListN.{List·getD-eq-default}
-use Rattle.setting.specs.Matrix.{matrixOf, matrices, lumaMatrix}
+use borrow.Author.Tests.{eqb-true}
+use lib.Dec.{eqb}
+use Rattle.setting.specs.Matrix.{matrixOf}
+use Rattle.setting.specs.Rules.{standing}
+use Rattle.setting.specs.declared.matrix.Matrix.{Matrix}
 use Rattle.setting.specs.declared.matrix.Matrix.the-variants as matrix
-use Rattle.setting.proofs.Ranges.{each}
+use Rattle.setting.proofs.Codes.{none, from, below, passed, by-clues, by-test}
 use Rattle.setting.proofs.matrix.matrix_of.Statement.{statement}
 use Rattle.setting.proofs.matrix.matrix_of.Tie as tie
 
--- a code that no single number of the match names
-record Others (n : ℕ) : Type 0 where
-  not-0 : n ≡ 0 → ⊥
-  not-1 : n ≡ 1 → ⊥
-  not-2 : n ≡ 2 → ⊥
-  not-3 : n ≡ 3 → ⊥
-  not-4 : n ≡ 4 → ⊥
-  not-7 : n ≡ 7 → ⊥
-  not-8 : n ≡ 8 → ⊥
-  not-9 : n ≡ 9 → ⊥
-  not-15 : n ≡ 15 → ⊥
-  not-16 : n ≡ 16 → ⊥
+-- a matrix that is not served, by the rule that it meets
+unserved : (m : Matrix) → standing m ≡ 3 → matrix.Unserved ≡ m
+unserved (matrix.Served e) q = absurd (omega arith)
+unserved matrix.Reserved q = absurd (omega arith)
+unserved matrix.Unspecified q = absurd (omega arith)
+unserved matrix.Unserved q = refl
 
-others : (c : tie.At-match-rest) → Others (c .before .args .code)
-others c =
-    let r = c .match .rest in
-    record {
-      not-0 = r .0 .0 .0 .0 .0 .0 .0 .0 .0 .1;
-      not-1 = r .0 .0 .0 .0 .0 .0 .0 .0 .1;
-      not-2 = r .0 .1;
-      not-3 = r .1;
-      not-4 = r .0 .0 .0 .0 .0 .0 .0 .1;
-      not-7 = r .0 .0 .0 .0 .0 .0 .1;
-      not-8 = r .0 .0 .0 .0 .1;
-      not-9 = r .0 .0 .0 .0 .0 .1;
-      not-15 = r .0 .0 .0 .1;
-      not-16 = r .0 .0 .1;
-    }
-
-from-5 : (n : ℕ) → Others n → 5 ≤ n
-from-5 n o = omega (arith, o .not-0, o .not-1, o .not-2, o .not-3, o .not-4)
-
-from-10 : (n : ℕ) → 7 ≤ n → Others n → 10 ≤ n
-from-10 n l o = omega (arith, o .not-7, o .not-8, o .not-9)
-
-from-17 : (n : ℕ) → 15 ≤ n → Others n → 17 ≤ n
-from-17 n l o = omega (arith, o .not-15, o .not-16)
+reserved : (m : Matrix) → standing m ≡ 1 → matrix.Reserved ≡ m
+reserved (matrix.Served e) q = absurd (omega arith)
+reserved matrix.Reserved q = refl
+reserved matrix.Unspecified q = absurd (omega arith)
+reserved matrix.Unserved q = absurd (omega arith)
 
 returns : tie.Need-returns
 unfolding matrixOf
-returns c = rw (c .match .keys1)
+returns c = rw (c .changed-places .ensures, c .before .match .keys1)
 
 returns-2 : tie.Need-returns-2
 unfolding matrixOf
-returns-2 c = rw (c .of .ensures, c .before .match .keys2)
+returns-2 c = rw (c .luma .ensures, c .before .match .keys2)
 
 returns-3 : tie.Need-returns-3
 unfolding matrixOf
-returns-3 c = rw (c .of2 .ensures, c .before .match .keys3)
+returns-3 c = rw (c .luma2 .ensures, c .before .match .keys3)
 
 returns-4 : tie.Need-returns-4
 unfolding matrixOf
-returns-4 c = rw (c .of3 .ensures, c .before .match .keys4)
+returns-4 c = rw (c .luma3 .ensures, c .before .match .keys4)
 
 returns-5 : tie.Need-returns-5
 unfolding matrixOf
-returns-5 c = rw (c .of4 .ensures, c .before .match .keys5)
+returns-5 c = rw (c .luma4 .ensures, c .before .match .keys5)
 
 returns-6 : tie.Need-returns-6
 unfolding matrixOf
-returns-6 c = rw (c .match .keys6)
+returns-6 c = rw (c .ycgco .ensures, c .before .match .keys6)
 
 returns-7 : tie.Need-returns-7
 unfolding matrixOf
-returns-7 c = rw (c .match .keys7)
+returns-7 c = rw (c .ycgco2 .ensures, c .before .match .keys7)
 
 returns-8 : tie.Need-returns-8
 unfolding matrixOf
-returns-8 c = rw (c .match .keys8)
+returns-8 c = rw (c .ycgco3 .ensures, c .before .match .keys8)
 
 returns-9 : tie.Need-returns-9
 unfolding matrixOf
@@ -88,15 +67,16 @@ returns-10 : tie.Need-returns-10
 unfolding matrixOf
 returns-10 c =
     let n = c .before .before .before .args .code in
-    rw (c .of5 .ensures)
-    (each (λ n. lumaMatrix 2990 1140 ≡ matrixOf n) 5 2 (refl, (refl, tt)) n (from-5 n (others (c .before .before))) (omega (arith, c .before .if1 .taken)))
+    let small : n < 256 = omega arith in
+    let each = ap matrix.Served (c .luma5 .ensures) in
+    by-clues (λ m. matrix.Served (c .luma5 .result) ≡ matrixOf m) (below (passed (passed (passed (passed (passed (passed (passed (passed (passed (passed (λ _. none)))))))))) (c .before .before .match .rest)) (c .before .if1 .taken)) small (each, (each, tt))
 
 returns-11 : tie.Need-returns-11
 unfolding matrixOf
 returns-11 c =
     let n = c .before .before .before .args .code in
-    each (λ n. matrix.Unserved ≡ matrixOf n) 10 5 (refl, (refl, (refl, (refl, (refl, tt))))) n
-    (from-10 n (c .before .if1 .left) (others (c .before .before))) (omega (arith, c .if2 .taken))
+    let small : n < 256 = omega arith in
+    unserved (matrixOf n) (eqb-true _ _ (by-test (λ m. eqb (standing (matrixOf m)) 3) (below (from (passed (passed (passed (passed (passed (passed (passed (passed (passed (passed (λ _. none)))))))))) (c .before .before .match .rest)) (c .before .if1 .left)) (c .if2 .taken)) small refl))
 
 returns-12 : tie.Need-returns-12
 unfolding matrixOf
@@ -106,27 +86,12 @@ returns-13 : tie.Need-returns-13
 unfolding matrixOf
 returns-13 c =
     let n = c .before .before .before .args .code in
-    sym (List·getD-eq-default matrices matrix.Reserved {n = n} (from-17 n (c .if2 .left) (others (c .before .before))))
+    let small : n < 256 = omega arith in
+    reserved (matrixOf n) (eqb-true _ _ (by-test (λ m. eqb (standing (matrixOf m)) 1) (from (passed (passed (passed (passed (passed (passed (passed (passed (passed (passed (λ _. none)))))))))) (c .before .before .match .rest)) (c .if2 .left)) small refl))
 
 pub matrix-of-spec : {M : Type 1} → statement M
 matrix-of-spec =
     tie.close
-    (tie.spec
-    (λ c κs. search needs)
-    (λ c κs. search needs)
-    (λ c κs. search needs)
-    (λ c κs. search needs)
-    (λ c κs. search needs)
-    returns
-    returns-2
-    returns-3
-    returns-4
-    returns-5
-    returns-6
-    returns-7
-    returns-8
-    returns-9
-    returns-10
-    returns-11
-    returns-12
-    returns-13)
+    (tie.spec (λ c κs. search needs) (λ c κs. search needs) (λ c κs. search needs) (λ c κs. search needs) (λ c κs. search needs)
+    (λ c κs. search needs) (λ c κs. search needs) (λ c κs. search needs) (λ c κs. search needs) returns returns-2 returns-3 returns-4
+    returns-5 returns-6 returns-7 returns-8 returns-9 returns-10 returns-11 returns-12 returns-13)

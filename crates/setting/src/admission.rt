@@ -1,0 +1,193 @@
+// Who is let in: the rules on a setting, in their order. Past rule 6 only the depth types are passed on.
+ghost use mathlib.Core.Path.{_≡_};
+ghost use mathlib.Core.Bool.{_&&_};
+ghost use Prim.Native.Nat.{_+_};
+ghost use lib.Dec.{eqb};
+ghost use Rattle.refusal.specs.Rules.{first, numbered};
+ghost use Rattle.setting.specs.Agreement.{same, bonded, deeperBy, agree, keeps, answers};
+ghost use Rattle.setting.specs.Rules.{depthRules, entryRules, servedDepths, servedBy, admitted, settingAdmission};
+use crate::Call;
+use crate::Setting;
+use crate::label;
+use crate::matrix;
+use crate::matrix::Bond;
+use crate::matrix::Entry;
+use crate::matrix::Formulas;
+use crate::matrix::Lossless;
+use crate::matrix::Matrix;
+use refusal::Refusal;
+use sample::Depths;
+use sample::DepthsChecked;
+
+// A setting that is not refused.
+pub struct Served {
+    pub formulas: Formulas,
+    pub depths: Depths,
+    pub rgb_full: bool,
+    pub ycc_full: bool,
+}
+
+pub enum Admission {
+    Served(Served),
+    Refused(Refusal),
+}
+
+fn refused(number: u8) -> Admission
+    ensures { λ r. ⌜ r ≡ Admission.Refused (numbered number) ⌝ }
+{
+    Admission::Refused(Refusal::numbered(number))
+}
+
+// Rule 6, with the depths in their own kinds where it doesn't apply.
+fn served_depths(deepest: u8, rgb: u8, luma: u8, chroma: u8) -> DepthsChecked
+    ensures { λ r. ⌜ r ≡ servedDepths deepest rgb luma chroma ⌝ }
+{
+    let DepthsChecked::Depths(depths) = Depths::checked(rgb, luma, chroma) else {
+        return DepthsChecked::Outside;
+    };
+    if depths.at_most(deepest) {
+        return DepthsChecked::Depths(depths);
+    }
+    DepthsChecked::Outside
+}
+
+fn both(a: bool, b: bool) -> bool
+    ensures { λ r. ⌜ r ≡ a && b ⌝ }
+{
+    if a {
+        return b;
+    }
+    false
+}
+
+// Whether two flags are both full or both narrow.
+fn are_same(a: bool, b: bool) -> bool
+    ensures { λ r. ⌜ r ≡ same a b ⌝ }
+{
+    if a {
+        return b;
+    }
+    !b
+}
+
+// Whether one depth is another and `added` bits more.
+fn is_deeper(depth: u8, other: u8, added: u8) -> bool
+    ensures { λ r. ⌜ r ≡ eqb depth (other + added) ⌝ }
+{
+    depth as u16 == other as u16 + added as u16
+}
+
+// Whether chroma is as deep as Y, or deeper by `most` bits at most.
+fn deeper_by(most: u8, luma: u8, chroma: u8) -> bool
+    ensures { λ r. ⌜ r ≡ deeperBy most luma chroma ⌝ }
+{
+    if chroma < luma {
+        return false;
+    }
+    chroma as u16 <= luma as u16 + most as u16
+}
+
+fn is_bonded(bond: Bond, d: Depths, rgb_full: bool, ycc_full: bool) -> bool
+    ensures { λ r. ⌜ r ≡ bonded bond d «rgb_full» «ycc_full» ⌝ }
+{
+    let rgb = d.rgb.0;
+    let luma = d.luma.0;
+    match bond {
+        Bond::Bits(added) => both(is_deeper(luma, rgb, added), are_same(rgb_full, ycc_full)),
+        Bond::Free => true,
+    }
+}
+
+// Rule 7, where this is false.
+fn agree(e: Entry, d: Depths, rgb_full: bool, ycc_full: bool) -> bool
+    ensures { λ r. ⌜ r ≡ agree e d «rgb_full» «ycc_full» ⌝ }
+{
+    let bond = e.bond;
+    let most = e.chroma_bits;
+    let luma = d.luma.0;
+    let chroma = d.chroma.0;
+    both(
+        is_bonded(bond, d, rgb_full, ycc_full),
+        deeper_by(most, luma, chroma),
+    )
+}
+
+fn keeps(lossless: Lossless, d: Depths) -> bool
+    ensures { λ r. ⌜ r ≡ keeps lossless d ⌝ }
+{
+    let rgb = d.rgb.0;
+    let chroma = d.chroma.0;
+    match lossless {
+        Lossless::From(bits) => rgb as u16 + bits as u16 <= chroma as u16,
+        Lossless::Never => false,
+    }
+}
+
+// Rule 11, where this is false.
+fn answers(call: Call, e: Entry, d: Depths) -> bool
+    ensures { λ r. ⌜ r ≡ answers call e d ⌝ }
+{
+    let metered = e.metered;
+    let lossless = e.lossless;
+    match call {
+        Call::Convert(_) => true,
+        Call::Meter => metered,
+        Call::ImageCheck => keeps(lossless, d),
+    }
+}
+
+// Rules 6, 7 and 11.
+fn admit_depths(call: Call, e: Entry, s: Setting) -> Admission
+    ensures { λ r. ⌜ r ≡ admitted (first (depthRules call e s)) (servedBy e s) ⌝ }
+{
+    let deepest = e.deepest;
+    let formulas = e.formulas;
+    let rgb = s.rgb_depth;
+    let luma = s.y_depth;
+    let chroma = s.c_depth;
+    let rgb_full = s.rgb_full;
+    let ycc_full = s.ycc_full;
+    let DepthsChecked::Depths(depths) = served_depths(deepest, rgb, luma, chroma) else {
+        return refused(Refusal::DEPTH_OUTSIDE);
+    };
+    if !agree(e, depths, rgb_full, ycc_full) {
+        return refused(Refusal::DISAGREEMENT);
+    }
+    if !answers(call, e, depths) {
+        return refused(Refusal::NOT_FOR_THIS_SETTING);
+    }
+    Admission::Served(Served {
+        formulas,
+        depths,
+        rgb_full,
+        ycc_full,
+    })
+}
+
+// Rules 4 and 5, and then those on depths.
+fn admit_entry(call: Call, e: Entry, s: Setting) -> Admission
+    ensures { λ r. ⌜ r ≡ admitted (first (entryRules call e s)) (servedBy e s) ⌝ }
+{
+    let primaries = s.primaries;
+    let transfer = s.transfer;
+    if label::is_reserved(label::primaries_label(primaries)) {
+        return refused(Refusal::RESERVED_PRIMARIES);
+    }
+    if label::is_reserved(label::transfer_label(transfer)) {
+        return refused(Refusal::RESERVED_TRANSFER);
+    }
+    admit_depths(call, e, s)
+}
+
+// The first of the rules on a setting that applies, or the setting in checked kinds.
+pub fn admit(call: Call, s: Setting) -> Admission
+    ensures { λ r. ⌜ r ≡ settingAdmission call s ⌝ }
+{
+    let code = s.matrix;
+    match matrix::matrix_of(code) {
+        Matrix::Reserved => refused(Refusal::RESERVED_MATRIX),
+        Matrix::Unspecified => refused(Refusal::UNSPECIFIED_MATRIX),
+        Matrix::Unserved => refused(Refusal::UNSERVED_MATRIX),
+        Matrix::Served(entry) => admit_entry(call, entry, s),
+    }
+}
