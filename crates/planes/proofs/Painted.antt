@@ -9,18 +9,18 @@ use native.Mathlib.Nat.{mul-add-div-right, mul-add-mod-self-right, div-eq-of-lt,
 use native.Mathlib.Omega.{arith}
 use borrow.Author.Tests.{lt-ltb, le-ltb}
 use lib.Dec.{ltb}
-use lib.ListN.{length, getD, take, drop}
+use lib.ListN.{length, take}
 use lib.Seq.{take-all}
 use Rattle.planes.specs.Sizes.{needed, RowStart}
-use Rattle.planes.specs.Plane.{tab, zeros, cell, planeOf, sampleAt, patched, cleared}
-use Rattle.planes.proofs.Tables.{below-or-not, length-tab, tab-same, part-length, part-at, patched-length, patched-more}
+use Rattle.planes.specs.Plane.{tab, zeros, cell, planeOf, patched, cleared}
+use Rattle.planes.proofs.Tables.{below-or-not, length-tab, tab-same, patched-length, patched-more}
 
 -- row j and column i of the element j · stride + i
 module _ (stride j i : ℕ) (l : i < stride) where
-  pub row-of : (j * stride + i) / stride ≡ j
+  row-of : (j * stride + i) / stride ≡ j
   row-of = let p : 0 < stride = omega arith in rw (mul-add-div-right p j i, div-eq-of-lt l) (add-zero j)
 
-  pub column-of : (j * stride + i) % stride ≡ i
+  column-of : (j * stride + i) % stride ≡ i
   column-of = rw (mul-add-mod-self-right j stride i) (mod-eq-of-lt l)
 
 -- the three kinds of element: in the picture, right of it, and below it
@@ -29,21 +29,13 @@ module _ (width height stride : ℕ) (sample : ℕ → ℕ → ℕ) where
   unfolding cell
   cell-in j i a b l = rw (row-of stride j i l, column-of stride j i l, lt-ltb j height a, lt-ltb i width b)
 
-  pub cell-right : (j i : ℕ) → width ≤ i → i < stride → cell width height stride sample (j * stride + i) ≡ 0
+  cell-right : (j i : ℕ) → width ≤ i → i < stride → cell width height stride sample (j * stride + i) ≡ 0
   unfolding cell
   cell-right j i b l = rw (row-of stride j i l, column-of stride j i l, le-ltb i width b, and-false (ltb j height))
 
-  pub cell-below : (k : ℕ) → 0 < stride → height * stride ≤ k → cell width height stride sample k ≡ 0
+  cell-below : (k : ℕ) → 0 < stride → height * stride ≤ k → cell width height stride sample k ≡ 0
   unfolding cell
   cell-below k p h = rw (le-ltb (k / stride) height (le-div-iff-mul-le {k = stride} {x = height} {y = k} p .1 h))
-
--- the part of a source plane that is row j, from s
-pub part-width : (p : List ℕ) (s width : ℕ) → s + width ≤ length p → length (take (s + width - s) (drop s p)) ≡ width
-part-width p s width h = omega (arith, part-length p s (s + width) (omega arith) h)
-
-pub part-sample : (p : List ℕ) (stride j s width i : ℕ) → s ≡ j * stride → i < width
-    → getD (take (s + width - s) (drop s p)) i 0 ≡ sampleAt p stride j i
-part-sample p stride j s width i q h = rw (← q) (part-at p s (s + width) i (omega arith))
 
 -- How far the loop is: j rows are written, all of the plane before `done`, which is not past the start of row j.
 pub record Progress (width height stride j done : ℕ) : Type 0 where
@@ -71,17 +63,17 @@ module _ (width height stride : ℕ) (sample : ℕ → ℕ → ℕ) (n : ℕ) wh
   painted-none y l = record { len = l; so-far = refl; gap = λ k a b. absurd (omega arith) }
 
   -- zeros from `done` to e, where the plane has zeros there
-  pub cleared-more : (y : List ℕ) (done e : ℕ) → length y ≡ n → take done y ≡ tab done (cell width height stride sample)
+  cleared-more : (y : List ℕ) (done e : ℕ) → length y ≡ n → take done y ≡ tab done (cell width height stride sample)
       → done ≤ e → e ≤ n → ((k : ℕ) → done ≤ k → k < e → cell width height stride sample k ≡ 0)
       → take e (cleared y done e) ≡ tab e (cell width height stride sample)
   cleared-more y done e l t a b z =
       patched-more (cell width height stride sample) y (zeros (e - done)) done e a (omega arith) t
       (tab-same (e - done) _ _ (λ i h. sym (z (done + i) (omega arith) (omega arith))))
 
-  pub cleared-length : (y : List ℕ) (done e : ℕ) → length y ≡ n → done ≤ e → e ≤ n → length (cleared y done e) ≡ n
+  cleared-length : (y : List ℕ) (done e : ℕ) → length y ≡ n → done ≤ e → e ≤ n → length (cleared y done e) ≡ n
   cleared-length y done e l a b = patched-length y (zeros (e - done)) done e a (omega arith) (length-tab _ _) ∙ l
 
-  -- one row more: y₁ has zeros up to row j, and y₂ has in its part from there a row that was made of parts of the source
+  -- one row more: y₁ has zeros up to row j, and y₂ has in its part from there a row that was made of parts of the input
   pub painted-more : (y y₁ ys y₂ : List ℕ) (j done a m : ℕ) (f : ℕ → ℕ) → Painted width height stride sample n y j done
       → width ≤ stride → j < height → done ≤ a → a ≡ j * stride → a + width ≤ n
       → y₁ ≡ cleared y done a → ys ≡ tab m f → m ≡ width → ((i : ℕ) → i < width → f i ≡ sample j i)

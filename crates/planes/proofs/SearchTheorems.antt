@@ -9,8 +9,8 @@ use borrow.Author.Tests.{ltb-true, ltb-false, lt-ltb, le-ltb}
 use Rattle.sample.specs.declared.Pixel.{Pixel}
 use Rattle.refusal.specs.declared.Place.{Place}
 use Rattle.planes.specs.Plane.{sampleAt, SamePicture}
-use Rattle.planes.specs.Picture.{Picture, picture, EveryPixel}
-use Rattle.planes.specs.First.{firstOf, isAbove, firstBad, badInPlane, badSample, AllFine, FinePlane, IsFirstBad, IsBadInPlane, IsBadSample, AtMost}
+use Rattle.planes.specs.Picture.{Picture, picture, planeAt, sampleOf, EveryPixel}
+use Rattle.planes.specs.First.{firstOf, isAbove, firstBad, badInPlane, badSample, AllFine, FinePlane, IsFirstBad, IsBadInPlane, IsBadSample, NotAbove}
 use Rattle.planes.specs.declared.search.Found.the-variants.{At, Nothing}
 use Rattle.planes.proofs.Searches.{nothing-exactly, found-exactly, no-place-means, first-place-means, first-place-same}
 
@@ -25,22 +25,20 @@ module _ (p : List ℕ) (plane width height stride top : ℕ) where
 
   -- Nothing: every sample is within its depth
   pub nothing-means : (firstBad p plane width height stride top ≡ Nothing) ↔ AllFine p width height stride top
-  unfolding firstBad
   nothing-means = no-place-means (isAbove p stride top) plane width height _ _ above not-above
 
   -- the place found is that of a sample beyond its depth, before which there is none
   pub at-means : (place : Place) → (firstBad p plane width height stride top ≡ At place) ↔ IsFirstBad p plane width height stride top place
-  unfolding firstBad
   at-means place = first-place-means (isAbove p stride top) plane width height _ _ above not-above place
 
 -- ---- a picture
 
 module _ (a : Picture) (tops : Pixel) where
   plane-fine : (k : ℕ) → (badInPlane a tops k ≡ Nothing) ↔ FinePlane a tops k
-  plane-fine k = nothing-means _ k _ _ _ _
+  plane-fine k = nothing-means (planeAt k a) k (a .width) (a .height) (a .stride) (sampleOf k tops)
 
   plane-bad : (k : ℕ) (place : Place) → (badInPlane a tops k ≡ At place) ↔ IsBadInPlane a tops k place
-  plane-bad k place = at-means _ k _ _ _ _ place
+  plane-bad k place = at-means (planeAt k a) k (a .width) (a .height) (a .stride) (sampleOf k tops) place
 
   -- Nothing: no plane has a bad sample
   pub nothing-in-planes-means : (badSample a tops ≡ Nothing) ↔ ((k : ℕ) → k < 3 → FinePlane a tops k)
@@ -76,21 +74,21 @@ module _ (a : Picture) (tops : Pixel) where
   pub at-in-planes-means : (place : Place) → (badSample a tops ≡ At place) ↔ IsBadSample a tops place
   at-in-planes-means place = (found-lowest place, lowest-found place)
 
-  fine : EveryPixel (AtMost tops) a → (k : ℕ) → k < 3 → FinePlane a tops k
-  fine h zero l j i x y = h j i x y .most0
-  fine h (suc zero) l j i x y = h j i x y .most1
-  fine h (suc (suc zero)) l j i x y = h j i x y .most2
+  fine : EveryPixel (NotAbove tops) a → (k : ℕ) → k < 3 → FinePlane a tops k
+  fine h zero l j i x y = h j i x y .within0
+  fine h (suc zero) l j i x y = h j i x y .within1
+  fine h (suc (suc zero)) l j i x y = h j i x y .within2
   fine h (suc (suc (suc k))) l j i x y = absurd (omega arith)
 
   -- Nothing: no sample of any pixel is above the largest of its plane
-  pub inside-exactly : (badSample a tops ≡ Nothing) ↔ EveryPixel (AtMost tops) a
-  inside-exactly =
+  pub nothing-in-pixels-means : (badSample a tops ≡ Nothing) ↔ EveryPixel (NotAbove tops) a
+  nothing-in-pixels-means =
       let t = nothing-in-planes-means in (
         λ e j i x y.
             record {
-              most0 = t .0 e 0 (omega arith) j i x y;
-              most1 = t .0 e 1 (omega arith) j i x y;
-              most2 = t .0 e 2 (omega arith) j i x y;
+              within0 = t .0 e 0 (omega arith) j i x y;
+              within1 = t .0 e 1 (omega arith) j i x y;
+              within2 = t .0 e 2 (omega arith) j i x y;
             },
         λ h. t .1 (fine h),
       )
@@ -99,7 +97,6 @@ module _ (a : Picture) (tops : Pixel) where
 
 first-bad-same : (p q : List ℕ) (plane width height stride top : ℕ) → SamePicture width height stride p q
     → firstBad p plane width height stride top ≡ firstBad q plane width height stride top
-unfolding firstBad
 first-bad-same p q plane width height stride top e =
     first-place-same (isAbove p stride top) (isAbove q stride top) plane width height (λ j i a b. rw (e j i a b))
 

@@ -39,16 +39,16 @@ first-here f (suc n) place k =
     (eq-or-lt-of-le (le-of-suc-le-suc (k .inside)))
 
 -- of two, nothing is found only if neither has anything
-neither : (a b : Found) → orFound a b ≡ Nothing → (a ≡ Nothing) × (b ≡ Nothing)
+neither-found : (a b : Found) → orFound a b ≡ Nothing → (a ≡ Nothing) × (b ≡ Nothing)
 unfolding orFound
-neither (At place) b e = absurd (something place e)
-neither Nothing b e = (refl, e)
+neither-found (At place) b e = absurd (something place e)
+neither-found Nothing b e = (refl, e)
 
 none-at : (f : ℕ → Found) (n : ℕ) → firstOf n f ≡ Nothing → (i : ℕ) → i < n → f i ≡ Nothing
 unfolding firstOf
 none-at f zero e i h = absurd (not-suc-le-zero h)
 none-at f (suc n) e i h =
-    let t = neither (firstOf n f) (f n) e in
+    let t = neither-found (firstOf n f) (f n) e in
     ⊎-elim (λ (w : i ≡ n). rw w (t .1)) (λ (w : i < n). none-at f n (t .0) i w) (eq-or-lt-of-le (le-of-suc-le-suc h))
 
 found-step : (f : ℕ → Found) (n : ℕ) (place : Place) (x : Found) → firstOf n f ≡ x → (firstOf n f ≡ At place → FoundIn f n place)

@@ -9,7 +9,7 @@ use Rattle.refusal.specs.Rules.{first, numbered}
 use Rattle.refusal.specs.declared.Check.the-variants.{Passed, Refused}
 use Rattle.refusal.proofs.RuleLaws.{same-refusal}
 use Rattle.planes.specs.declared.size.Layout.{Layout}
-use Rattle.planes.specs.Sizes.{mostSize, outside, strideOutside, sizeOutside, layoutShort, someLayout, sizeRules, Within, StrideWithin, Fits, EveryLayout, SizesWithin, PlanesLong}
+use Rattle.planes.specs.Sizes.{mostSize, strideOutside, sizeOutside, layoutShort, someLayout, sizeRules, Within, StrideWithin, Fits, EveryLayout, SizesWithin, PlanesLong}
 use Rattle.planes.proofs.SizeLaws.{sizes-exactly, planes-exactly}
 
 -- two rules go in one of three ways

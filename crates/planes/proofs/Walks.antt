@@ -15,16 +15,16 @@ use Rattle.planes.specs.declared.search.Found.the-variants.{At, Nothing}
 use Rattle.planes.proofs.Searches.{no-place-means, first-place-means}
 
 -- the test fails at every column of row j before column i
-abbrev pub Passed : (ℕ → ℕ → Bool) → ℕ → ℕ → Type 0
-Passed test j i = (c : ℕ) → c < i → test j c ≡ false
+abbrev pub NoneBefore : (ℕ → ℕ → Bool) → ℕ → ℕ → Type 0
+NoneBefore test j i = (c : ℕ) → c < i → test j c ≡ false
 
 -- nothing was found in the rows before row j, nor before column i of row j
 pub record Walked (test : ℕ → ℕ → Bool) (width height : ℕ) (found : Found) (j i : ℕ) : Type 0 where
   pub row-most : j ≤ height
   pub column-most : i ≤ width
   pub nothing : found ≡ Nothing
-  pub rows : (r : ℕ) → r < j → Passed test r width
-  pub columns : Passed test j i
+  pub rows : (r : ℕ) → r < j → NoneBefore test r width
+  pub columns : NoneBefore test j i
 
 module _ {test : ℕ → ℕ → Bool} {width height : ℕ} where
   pub walked-none : Walked test width height Nothing 0 0
@@ -36,7 +36,7 @@ module _ {test : ℕ → ℕ → Bool} {width height : ℕ} where
     walked-column l e =
         record { row-most = w .row-most; column-most = omega arith; nothing = w .nothing; rows = w .rows; columns = below-more _ i (w .columns) e }
 
-    pub walked-over : j < height → Passed test j width → Walked test width height found (j + 1) 0
+    pub walked-over : j < height → NoneBefore test j width → Walked test width height found (j + 1) 0
     walked-over l e =
         record { row-most = omega arith; column-most = omega arith; nothing = w .nothing; rows = below-more _ j (w .rows) e; columns = below-none _ }
 

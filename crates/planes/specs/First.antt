@@ -42,7 +42,7 @@ abbrev pub isAbove : List ℕ → ℕ → ℕ → ℕ → ℕ → Bool
 isAbove p stride top j i = ltb top (sampleAt p stride j i)
 
 -- the first bad sample of a plane
-unfoldable pub firstBad : List ℕ → ℕ → ℕ → ℕ → ℕ → ℕ → Found
+abbrev pub firstBad : List ℕ → ℕ → ℕ → ℕ → ℕ → ℕ → Found
 firstBad p plane width height stride top = firstPlace (isAbove p stride top) plane width height
 
 -- that of plane k of a picture, where tops has the largest sample of each plane
@@ -97,7 +97,7 @@ pub record IsBadSample (a : Picture) (tops : Pixel) (place : Place) : Type 0 whe
   pub fine-below : (k : ℕ) → k < place .plane → FinePlane a tops k
 
 -- no sample of a pixel is above that of tops in its plane
-pub record AtMost (tops p : Pixel) : Type 0 where
-  pub most0 : p .p0 ≤ tops .p0
-  pub most1 : p .p1 ≤ tops .p1
-  pub most2 : p .p2 ≤ tops .p2
+pub record NotAbove (tops p : Pixel) : Type 0 where
+  pub within0 : p .p0 ≤ tops .p0
+  pub within1 : p .p1 ≤ tops .p1
+  pub within2 : p .p2 ≤ tops .p2

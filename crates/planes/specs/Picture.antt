@@ -1,5 +1,4 @@
 -- A picture: three planes of one stride, with a width and a height.
-use mathlib.Core.Path.{_≡_}
 use mathlib.Core.List.{List, [], _∷_}
 use Prim.Native.Nat.{ℕ, _<_}
 use lib.ListN.{length, getD}

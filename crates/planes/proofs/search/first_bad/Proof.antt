@@ -5,20 +5,19 @@ use Prim.Native.Nat.{ℕ, _+_, _*_, _-_, _≤_}
 use native.Mathlib.Omega.{arith}
 use borrow.Author.Needs.{needs}
 use borrow.Author.Tests.{lt-ltb, le-ltb}
-use lib.ListN.{length, getD, take, drop}
-use Rattle.planes.specs.First.{isAbove, firstBad, NoneAbove}
-use Rattle.planes.proofs.Tables.{part-length, part-at}
-use Rattle.planes.proofs.Walks.{Passed, Walked, walked-none, walked-column, walked-row, walked-over, walked-all, walked-here}
+use lib.ListN.{length, take, drop}
+use Rattle.planes.specs.Plane.{sampleAt}
+use Rattle.planes.specs.First.{isAbove, NoneAbove}
+use Rattle.planes.proofs.Tables.{part-width, part-sample}
+use Rattle.planes.proofs.Walks.{NoneBefore, Walked, walked-none, walked-column, walked-row, walked-over, walked-all, walked-here}
 use Rattle.planes.proofs.search.first_bad.Statement.{statement}
 use Rattle.planes.proofs.search.first_bad.Tie as tie
 
 -- row j starts at a, no sample of it is above m, and m is not above top
 row-fine : (p : List ℕ) (width stride top j a m : ℕ) → a ≡ j * stride → a + width ≤ length p
-    → NoneAbove (take (a + width - a) (drop a p)) m → m ≤ top → Passed (isAbove p stride top) j width
+    → NoneAbove (take (a + width - a) (drop a p)) m → m ≤ top → NoneBefore (isAbove p stride top) j width
 row-fine p width stride top j a m starts h e l i k =
-    let inside = part-length p a (a + width) (omega arith) h in
-    let fine : getD p (a + i) 0 ≤ top = omega (arith, e i (omega arith), part-at p a (a + width) i (omega arith)) in
-    rw (← starts) (le-ltb _ _ fine)
+    le-ltb top (sampleAt p stride j i) (omega (arith, e i (omega (arith, part-width p a width h)), part-sample p stride j a width i starts k))
 
 abbrev Inv-loop : tie.InvT-loop
 Inv-loop p plane width height stride top found₀ j a e i₀ found i = Walked (isAbove p stride top) width height found j i
@@ -32,13 +31,9 @@ Inv-rows p plane width height stride top found₀ j₀ found j = Walked (isAbove
 abbrev μ-rows : tie.MeasureT-rows
 μ-rows p plane width height stride top found₀ j₀ found j = height - j
 
-rows-holds : tie.Need-rows-holds Inv-loop μ-loop Inv-rows μ-rows
-rows-holds c = walked-none
-
 rows-again : tie.Need-rows-again Inv-loop μ-loop Inv-rows μ-rows
 rows-again c =
-    let r = c .before .before .before .before .before .rows in
-    walked-over (r .inv) (omega arith)
+    walked-over (c .before .before .before .before .before .rows .inv) (omega arith)
     (row-fine _ _ _ _ _ _ _ (c .before .before .before .row-start .ensures .is) (omega arith) (c .before .largest .ensures) (c .if1 .taken))
 
 loop-again : tie.Need-loop-again Inv-loop μ-loop Inv-rows μ-rows
@@ -46,15 +41,7 @@ loop-again c =
     let starts = c .before .before .before .before .before .before .before .row-start .ensures .is in
     walked-column (c .before .before .before .loop .inv) (omega arith) (rw (← starts) (le-ltb _ _ (c .if2 .left)))
 
-rows-again-2 : tie.Need-rows-again-2 Inv-loop μ-loop Inv-rows μ-rows
-rows-again-2 c = walked-row (c .before .loop .inv) (omega arith) (omega arith)
-
-returns : tie.Need-returns Inv-loop μ-loop Inv-rows μ-rows
-unfolding firstBad
-returns c = walked-all (c .before .rows .inv) _ (omega arith)
-
 returns-2 : tie.Need-returns-2 Inv-loop μ-loop Inv-rows μ-rows
-unfolding firstBad
 returns-2 c =
     let starts = c .before .before .before .before .before .before .before .row-start .ensures .is in
     walked-here (c .before .before .before .loop .inv) _ (omega arith) (omega arith) (rw (← starts) (lt-ltb _ _ (c .if2 .taken)))
@@ -67,7 +54,7 @@ first-bad-spec =
     μ-loop
     Inv-rows
     μ-rows
-    rows-holds
+    (λ c. walked-none)
     (λ c κs. search needs)
     (λ c. search needs)
     (λ c. search needs)
@@ -89,6 +76,6 @@ first-bad-spec =
     loop-again
     (λ c. search needs)
     (λ c. search needs)
-    rows-again-2
-    returns
+    (λ c. walked-row (c .before .loop .inv) (omega arith) (omega arith))
+    (λ c. walked-all (c .before .rows .inv) _ (omega arith))
     returns-2)

@@ -1,6 +1,5 @@
 -- `planes::size::check_sizes` meets its contract: each test of the code is one of the rules', in their order.
-use mathlib.Core.Path.{_≡_, sym, _∙_}
-use mathlib.Core.Bool.{true, false}
+use mathlib.Core.Path.{sym, _∙_}
 use mathlib.Core.List.{[], _∷_}
 use borrow.Author.Needs.{needs}
 use Rattle.refusal.specs.Rules.{first}
