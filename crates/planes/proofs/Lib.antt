@@ -5,4 +5,5 @@ pub mod Tables
 pub mod Painted
 pub mod PlaneTheorems
 pub mod Searches
+pub mod Walks
 pub mod SearchTheorems

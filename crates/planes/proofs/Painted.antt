@@ -9,103 +9,95 @@ use native.Mathlib.Nat.{mul-add-div-right, mul-add-mod-self-right, div-eq-of-lt,
 use native.Mathlib.Omega.{arith}
 use borrow.Author.Tests.{lt-ltb, le-ltb}
 use lib.Dec.{ltb}
-use lib.ListN.{length, getD, take, drop}
+use lib.ListN.{length, take}
 use lib.Seq.{take-all}
 use Rattle.planes.specs.Sizes.{needed, RowStart}
-use Rattle.planes.specs.Plane.{tab, zeros, cell, planeOf, sampleAt, patched, cleared}
-use Rattle.planes.proofs.Tables.{below-or-not, length-tab, tab-same, part-length, part-at, patched-length, patched-more}
+use Rattle.planes.specs.Plane.{tab, zeros, cell, planeOf, patched, cleared}
+use Rattle.planes.proofs.Tables.{below-or-not, length-tab, tab-same, patched-length, patched-more}
 
 -- row j and column i of the element j · stride + i
 module _ (stride j i : ℕ) (l : i < stride) where
-  pub row-of : (j * stride + i) / stride ≡ j
+  row-of : (j * stride + i) / stride ≡ j
   row-of = let p : 0 < stride = omega arith in rw (mul-add-div-right p j i, div-eq-of-lt l) (add-zero j)
 
-  pub column-of : (j * stride + i) % stride ≡ i
+  column-of : (j * stride + i) % stride ≡ i
   column-of = rw (mul-add-mod-self-right j stride i) (mod-eq-of-lt l)
 
 -- the three kinds of element: in the picture, right of it, and below it
-module _ (stride width height : ℕ) (sample : ℕ → ℕ → ℕ) where
-  pub cell-in : (j i : ℕ) → j < height → i < width → i < stride → cell stride width height sample (j * stride + i) ≡ sample j i
+module _ (width height stride : ℕ) (sample : ℕ → ℕ → ℕ) where
+  pub cell-in : (j i : ℕ) → j < height → i < width → i < stride → cell width height stride sample (j * stride + i) ≡ sample j i
   unfolding cell
   cell-in j i a b l = rw (row-of stride j i l, column-of stride j i l, lt-ltb j height a, lt-ltb i width b)
 
-  pub cell-right : (j i : ℕ) → width ≤ i → i < stride → cell stride width height sample (j * stride + i) ≡ 0
+  cell-right : (j i : ℕ) → width ≤ i → i < stride → cell width height stride sample (j * stride + i) ≡ 0
   unfolding cell
   cell-right j i b l = rw (row-of stride j i l, column-of stride j i l, le-ltb i width b, and-false (ltb j height))
 
-  pub cell-below : (k : ℕ) → 0 < stride → height * stride ≤ k → cell stride width height sample k ≡ 0
+  cell-below : (k : ℕ) → 0 < stride → height * stride ≤ k → cell width height stride sample k ≡ 0
   unfolding cell
   cell-below k p h = rw (le-ltb (k / stride) height (le-div-iff-mul-le {k = stride} {x = height} {y = k} p .1 h))
 
--- the part of a source plane that is row j, from s
-pub part-width : (p : List ℕ) (s width : ℕ) → s + width ≤ length p → length (take (s + width - s) (drop s p)) ≡ width
-part-width p s width h = omega (arith, part-length p s (s + width) (omega arith) h)
-
-pub part-sample : (p : List ℕ) (stride j s width i : ℕ) → s ≡ j * stride → i < width
-    → getD (take (s + width - s) (drop s p)) i 0 ≡ sampleAt p stride j i
-part-sample p stride j s width i q h = rw (← q) (part-at p s (s + width) i (omega arith))
-
 -- How far the loop is: j rows are written, all of the plane before `done`, which is not past the start of row j.
-pub record Progress (stride width height j done : ℕ) : Type 0 where
+pub record Progress (width height stride j done : ℕ) : Type 0 where
   pub rows : j ≤ height
   pub until-row : done ≤ j * stride
   pub until-end : done ≤ needed width height stride
 
-pub progress-none : (stride width height : ℕ) → Progress stride width height 0 0
-progress-none stride width height = omega arith
+pub progress-none : (width height stride : ℕ) → Progress width height stride 0 0
+progress-none width height stride = omega arith
 
-pub progress-more : (stride width height j done a : ℕ) → Progress stride width height j done → j < height → width ≤ stride
-    → RowStart j stride height a → Progress stride width height (j + 1) (a + width)
-progress-more stride width height j done a d h w r =
+pub progress-more : (width height stride j done a : ℕ) → Progress width height stride j done → j < height → width ≤ stride
+    → RowStart j height stride a → Progress width height stride (j + 1) (a + width)
+progress-more width height stride j done a d h w r =
     record { rows = omega arith; until-row = omega (arith, r .is); until-end = omega (arith, r .last) }
 
 -- The invariant: y has n elements, it is the plane as far as `done`, and from there to row j the plane has zeros.
-pub record Painted (stride width height : ℕ) (sample : ℕ → ℕ → ℕ) (n : ℕ) (y : List ℕ) (j done : ℕ) : Type 0 where
+pub record Painted (width height stride : ℕ) (sample : ℕ → ℕ → ℕ) (n : ℕ) (y : List ℕ) (j done : ℕ) : Type 0 where
   pub len : length y ≡ n
-  pub so-far : take done y ≡ tab done (cell stride width height sample)
-  pub gap : (k : ℕ) → done ≤ k → k < j * stride → cell stride width height sample k ≡ 0
+  pub so-far : take done y ≡ tab done (cell width height stride sample)
+  pub gap : (k : ℕ) → done ≤ k → k < j * stride → cell width height stride sample k ≡ 0
 
-module _ (stride width height : ℕ) (sample : ℕ → ℕ → ℕ) (n : ℕ) where
-  pub painted-none : (y : List ℕ) → length y ≡ n → Painted stride width height sample n y 0 0
+module _ (width height stride : ℕ) (sample : ℕ → ℕ → ℕ) (n : ℕ) where
+  pub painted-none : (y : List ℕ) → length y ≡ n → Painted width height stride sample n y 0 0
   unfolding tab
   painted-none y l = record { len = l; so-far = refl; gap = λ k a b. absurd (omega arith) }
 
   -- zeros from `done` to e, where the plane has zeros there
-  pub cleared-more : (y : List ℕ) (done e : ℕ) → length y ≡ n → take done y ≡ tab done (cell stride width height sample)
-      → done ≤ e → e ≤ n → ((k : ℕ) → done ≤ k → k < e → cell stride width height sample k ≡ 0)
-      → take e (cleared y done e) ≡ tab e (cell stride width height sample)
+  cleared-more : (y : List ℕ) (done e : ℕ) → length y ≡ n → take done y ≡ tab done (cell width height stride sample)
+      → done ≤ e → e ≤ n → ((k : ℕ) → done ≤ k → k < e → cell width height stride sample k ≡ 0)
+      → take e (cleared y done e) ≡ tab e (cell width height stride sample)
   cleared-more y done e l t a b z =
-      patched-more (cell stride width height sample) y (zeros (e - done)) done e a (omega arith) t
+      patched-more (cell width height stride sample) y (zeros (e - done)) done e a (omega arith) t
       (tab-same (e - done) _ _ (λ i h. sym (z (done + i) (omega arith) (omega arith))))
 
-  pub cleared-length : (y : List ℕ) (done e : ℕ) → length y ≡ n → done ≤ e → e ≤ n → length (cleared y done e) ≡ n
+  cleared-length : (y : List ℕ) (done e : ℕ) → length y ≡ n → done ≤ e → e ≤ n → length (cleared y done e) ≡ n
   cleared-length y done e l a b = patched-length y (zeros (e - done)) done e a (omega arith) (length-tab _ _) ∙ l
 
-  -- one row more: y₁ has zeros up to row j, and y₂ has in its part from there a row that was made of parts of the source
-  pub painted-more : (y y₁ ys y₂ : List ℕ) (j done a m : ℕ) (f : ℕ → ℕ) → Painted stride width height sample n y j done
+  -- one row more: y₁ has zeros up to row j, and y₂ has in its part from there a row that was made of parts of the input
+  pub painted-more : (y y₁ ys y₂ : List ℕ) (j done a m : ℕ) (f : ℕ → ℕ) → Painted width height stride sample n y j done
       → width ≤ stride → j < height → done ≤ a → a ≡ j * stride → a + width ≤ n
       → y₁ ≡ cleared y done a → ys ≡ tab m f → m ≡ width → ((i : ℕ) → i < width → f i ≡ sample j i)
-      → y₂ ≡ patched y₁ a (a + width) ys → Painted stride width height sample n y₂ (j + 1) (a + width)
+      → y₂ ≡ patched y₁ a (a + width) ys → Painted width height stride sample n y₂ (j + 1) (a + width)
   painted-more y y₁ ys y₂ j done a m f d w b k q c e₁ e l r e₂ =
-      let element = cell stride width height sample in
+      let element = cell width height stride sample in
       let n₁ : length y₁ ≡ n = rw e₁ (cleared-length y done a (d .len) k (omega arith)) in
       let t : take a y₁ ≡ tab a element =
       rw e₁ (cleared-more y done a (d .len) (d .so-far) k (omega arith) (λ x l o. d .gap x l (omega arith))) in
       let v : a + width - a ≡ width = omega arith in
       let u : ys ≡ tab (a + width - a) (λ (i : ℕ). element (a + i)) =
-      rw (v, q) (e ∙ rw l (tab-same width _ _ (λ i o. r i o ∙ sym (cell-in stride width height sample j i b o (omega arith))))) in
+      rw (v, q) (e ∙ rw l (tab-same width _ _ (λ i o. r i o ∙ sym (cell-in width height stride sample j i b o (omega arith))))) in
       record {
         len = rw e₂ (patched-length y₁ ys a (a + width) (omega arith) (omega arith) (ap length u ∙ length-tab _ _) ∙ n₁);
         so-far = rw e₂ (patched-more element y₁ ys a (a + width) (omega arith) (omega arith) t u);
-        gap = λ x l o. ap element (omega arith) ∙ cell-right stride width height sample j (x - j * stride) (omega arith) (omega arith);
+        gap = λ x l o. ap element (omega arith) ∙ cell-right width height stride sample j (x - j * stride) (omega arith) (omega arith);
       }
 
   -- the zeros after the last row
-  pub painted-end : (y y₁ : List ℕ) (j done : ℕ) → Painted stride width height sample n y j done
-      → 0 < stride → j ≡ height → done ≤ n → y₁ ≡ cleared y done n → y₁ ≡ planeOf n stride width height sample
+  pub painted-end : (y y₁ : List ℕ) (j done : ℕ) → Painted width height stride sample n y j done
+      → 0 < stride → j ≡ height → done ≤ n → y₁ ≡ cleared y done n → y₁ ≡ planeOf n width height stride sample
   unfolding planeOf
   painted-end y y₁ j done d p q k e =
       let m : length y₁ ≡ n = rw e (cleared-length y done n (d .len) k (omega arith)) in
-      let z : (x : ℕ) → done ≤ x → x < n → cell stride width height sample x ≡ 0 =
-      λ x l o. ⊎-elim (λ (h : x < height * stride). d .gap x l (rw q h)) (λ (h : height * stride ≤ x). cell-below stride width height sample x p h) (below-or-not x (height * stride)) in
+      let z : (x : ℕ) → done ≤ x → x < n → cell width height stride sample x ≡ 0 =
+      λ x l o. ⊎-elim (λ (h : x < height * stride). d .gap x l (rw q h)) (λ (h : height * stride ≤ x). cell-below width height stride sample x p h) (below-or-not x (height * stride)) in
       sym (take-all n y₁ (omega arith)) ∙ rw e (cleared-more y done n (d .len) (d .so-far) k (omega arith) z)

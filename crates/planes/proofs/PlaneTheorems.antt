@@ -9,7 +9,8 @@ use borrow.Author.Tests.{ltb-true}
 use lib.Dec.{ltb}
 use lib.ListN.{length, getD}
 use Rattle.sample.proofs.Picks.{both-true, cannot}
-use Rattle.planes.specs.Plane.{cell, planeOf, sampleAt, pixelAt, SamePicture}
+use Rattle.planes.specs.Plane.{cell, planeOf, sampleAt, SamePicture}
+use Rattle.planes.specs.Picture.{Picture, picture, pixelOf}
 use Rattle.planes.proofs.Tables.{length-tab, tab-at, tab-same}
 use Rattle.planes.proofs.Painted.{cell-in}
 
@@ -22,24 +23,24 @@ where-true false x y z e = refl
 inside : (a b h w : ℕ) → ltb a h && ltb b w ≡ true → (a < h) × (b < w)
 inside a b h w e = let t = both-true (ltb a h) (ltb b w) e in (ltb-true a h (t .0), ltb-true b w (t .1))
 
-module _ (n stride width height : ℕ) where
-  pub plane-length : (sample : ℕ → ℕ → ℕ) → length (planeOf n stride width height sample) ≡ n
+module _ (n width height stride : ℕ) where
+  pub plane-length : (sample : ℕ → ℕ → ℕ) → length (planeOf n width height stride sample) ≡ n
   unfolding planeOf
   plane-length sample = length-tab n _
 
   -- an element of the plane
-  pub plane-at : (sample : ℕ → ℕ → ℕ) (k : ℕ) → k < n → getD (planeOf n stride width height sample) k 0 ≡ cell stride width height sample k
+  pub plane-at : (sample : ℕ → ℕ → ℕ) (k : ℕ) → k < n → getD (planeOf n width height stride sample) k 0 ≡ cell width height stride sample k
   unfolding planeOf
   plane-at sample k l = tab-at n _ k l
 
   -- an element of the picture
   pub plane-inside : (sample : ℕ → ℕ → ℕ) (j i : ℕ) → j < height → i < width → width ≤ stride → j * stride + i < n
-      → sampleAt (planeOf n stride width height sample) stride j i ≡ sample j i
-  plane-inside sample j i a b w l = plane-at sample (j * stride + i) l ∙ cell-in stride width height sample j i a b (omega arith)
+      → sampleAt (planeOf n width height stride sample) stride j i ≡ sample j i
+  plane-inside sample j i a b w l = plane-at sample (j * stride + i) l ∙ cell-in width height stride sample j i a b (omega arith)
 
   -- any other: in the padding or past the picture
   pub plane-outside : (sample : ℕ → ℕ → ℕ) (k : ℕ) → k < n → ((j i : ℕ) → j < height → i < width → k ≡ j * stride + i → ⊥)
-      → getD (planeOf n stride width height sample) k 0 ≡ 0
+      → getD (planeOf n width height stride sample) k 0 ≡ 0
   unfolding cell
   plane-outside sample k l o =
       let j = k / stride in
@@ -51,7 +52,7 @@ module _ (n stride width height : ℕ) where
 
   -- planes whose samples agree inside the picture are equal
   pub plane-same : (f g : ℕ → ℕ → ℕ) → ((j i : ℕ) → j < height → i < width → f j i ≡ g j i)
-      → planeOf n stride width height f ≡ planeOf n stride width height g
+      → planeOf n width height stride f ≡ planeOf n width height stride g
   unfolding planeOf cell
   plane-same f g e =
       tab-same n _ _
@@ -60,7 +61,7 @@ module _ (n stride width height : ℕ) where
       (λ t. let u = inside (k / stride) (k % stride) height width t in e (k / stride) (k % stride) (u .0) (u .1)))
 
 -- and so are the pixels of planes that agree inside the picture
-pub pixel-same : (stride width height : ℕ) (p0 p1 p2 q0 q1 q2 : List ℕ)
-    → SamePicture stride width height p0 q0 → SamePicture stride width height p1 q1 → SamePicture stride width height p2 q2
-    → (j i : ℕ) → j < height → i < width → pixelAt p0 p1 p2 stride j i ≡ pixelAt q0 q1 q2 stride j i
-pixel-same stride width height p0 p1 p2 q0 q1 q2 e0 e1 e2 j i a b = rw (e0 j i a b, e1 j i a b, e2 j i a b)
+pub pixel-same : (a : Picture) (q0 q1 q2 : List ℕ) → SamePicture (a .width) (a .height) (a .stride) (a .p0) q0
+    → SamePicture (a .width) (a .height) (a .stride) (a .p1) q1 → SamePicture (a .width) (a .height) (a .stride) (a .p2) q2
+    → (j i : ℕ) → j < a .height → i < a .width → pixelOf a j i ≡ pixelOf (picture (a .width) (a .height) (a .stride) q0 q1 q2) j i
+pixel-same a q0 q1 q2 e0 e1 e2 j i x y = rw (e0 j i x y, e1 j i x y, e2 j i x y)

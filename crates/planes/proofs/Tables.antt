@@ -2,13 +2,13 @@
 use mathlib.Core.Path.{_≡_, refl, sym, ap, _∙_}
 use mathlib.Core.List.{List, [], _∷_, _++_, append-assoc, append-nil}
 use mathlib.Core.Logic.{_⊎_, inl, inr, ⊎-elim}
-use Prim.Native.Nat.{ℕ, zero, suc, _+_, _-_, _≤_, _<_}
+use Prim.Native.Nat.{ℕ, zero, suc, _+_, _*_, _-_, _≤_, _<_}
 use native.Mathlib.Nat.{add-zero, add-suc, eq-or-lt-of-le, le-of-suc-le-suc, not-suc-le-zero}
 use native.Mathlib.Numerals.{add-one}
 use native.Mathlib.Omega.{arith}
 use lib.ListN.{length, getD, take, drop, set, length-append, length-set, length-take, length-drop, List·getD-append}
 use lib.Seq.{take-suc-set, take-all, take-at, getD-at, getD-take, getD-drop}
-use Rattle.planes.specs.Plane.{tab, patched}
+use Rattle.planes.specs.Plane.{tab, sampleAt, patched}
 
 -- a number is below another or not
 pub below-or-not : (a b : ℕ) → (a < b) ⊎ (b ≤ a)
@@ -36,7 +36,7 @@ tab-at (suc n) f i h =
     (eq-or-lt-of-le (le-of-suc-le-suc h))
 
 -- a table in two parts
-pub tab-split : (f : ℕ → ℕ) (a n : ℕ) → tab (a + n) f ≡ tab a f ++ tab n (λ (i : ℕ). f (a + i))
+tab-split : (f : ℕ → ℕ) (a n : ℕ) → tab (a + n) f ≡ tab a f ++ tab n (λ (i : ℕ). f (a + i))
 unfolding tab
 tab-split f a zero = rw add-zero (sym (append-nil _))
 tab-split f a (suc n) = rw (add-suc, tab-split f a n, append-assoc)
@@ -63,8 +63,16 @@ filled-all f n y i q e = rw (← q) (sym (take-all i y (omega (arith, e .len))) 
 pub part-length : (y : List ℕ) (a e : ℕ) → a ≤ e → e ≤ length y → length (take (e - a) (drop a y)) ≡ e - a
 part-length y a e h k = simp (length-take, length-drop) (omega arith)
 
-pub part-at : (y : List ℕ) (a e i : ℕ) → i < e - a → getD (take (e - a) (drop a y)) i 0 ≡ getD y (a + i) 0
+part-at : (y : List ℕ) (a e i : ℕ) → i < e - a → getD (take (e - a) (drop a y)) i 0 ≡ getD y (a + i) 0
 part-at y a e i h = rw (getD-take, getD-drop)
+
+-- the part of an input plane that is row j, which starts at s
+pub part-width : (p : List ℕ) (s width : ℕ) → s + width ≤ length p → length (take (s + width - s) (drop s p)) ≡ width
+part-width p s width h = omega (arith, part-length p s (s + width) (omega arith) h)
+
+pub part-sample : (p : List ℕ) (stride j s width i : ℕ) → s ≡ j * stride → i < width
+    → getD (take (s + width - s) (drop s p)) i 0 ≡ sampleAt p stride j i
+part-sample p stride j s width i q h = rw (← q) (part-at p s (s + width) i (omega arith))
 
 pub patched-length : (y ys : List ℕ) (a e : ℕ) → a ≤ e → e ≤ length y → length ys ≡ e - a → length (patched y a e ys) ≡ length y
 patched-length y ys a e h k l = simp (length-append, length-take, length-drop) (omega arith)

@@ -1,15 +1,17 @@
--- The first bad sample of a picture, which a refusal of 10 names: planes are searched in their order, each row by row, a row from its
--- first column on.
+-- Rule 10 of the refusals: the first bad sample of a picture. Planes are searched in their order, each row by row, a row from its first
+-- column on.
 use mathlib.Core.Path.{_≡_}
-use mathlib.Core.Bool.{Bool, cond}
-use mathlib.Core.List.{List, []}
+use mathlib.Core.Bool.{Bool, true, false, cond}
+use mathlib.Core.List.{List}
 use mathlib.Core.Logic.{_⊎_}
 use Prim.Native.Nat.{ℕ, zero, suc, _≤_, _<_}
 use lib.Dec.{ltb}
 use lib.ListN.{length, getD}
-use Rattle.refusal.specs.Table.{at}
+use Rattle.refusal.specs.Rules.{Rule, rule, at, badAt}
 use Rattle.refusal.specs.declared.Place.{Place}
+use Rattle.sample.specs.declared.Pixel.{Pixel}
 use Rattle.planes.specs.Plane.{sampleAt}
+use Rattle.planes.specs.Picture.{Picture, planeAt, sampleOf}
 use Rattle.planes.specs.declared.search.Found.{Found}
 use Rattle.planes.specs.declared.search.Found.the-variants.{At, Nothing}
 
@@ -40,13 +42,21 @@ abbrev pub isAbove : List ℕ → ℕ → ℕ → ℕ → ℕ → Bool
 isAbove p stride top j i = ltb top (sampleAt p stride j i)
 
 -- the first bad sample of a plane
-unfoldable pub firstBad : List ℕ → ℕ → ℕ → ℕ → ℕ → ℕ → Found
-firstBad p plane stride width height top = firstPlace (isAbove p stride top) plane width height
+abbrev pub firstBad : List ℕ → ℕ → ℕ → ℕ → ℕ → ℕ → Found
+firstBad p plane width height stride top = firstPlace (isAbove p stride top) plane width height
 
--- the first bad sample of some planes, each with its own top
-unfoldable pub badSample : List (List ℕ) → ℕ → ℕ → ℕ → List ℕ → Found
-badSample planes stride width height tops =
-    firstOf (length planes) (λ (k : ℕ). firstBad (getD planes k []) k stride width height (getD tops k 0))
+-- that of plane k of a picture, where tops has the largest sample of each plane
+abbrev pub badInPlane : Picture → Pixel → ℕ → Found
+badInPlane a tops k = firstBad (planeAt k a) k (a .width) (a .height) (a .stride) (sampleOf k tops)
+
+-- the first bad sample of a picture
+unfoldable pub badSample : Picture → Pixel → Found
+badSample a tops = firstOf 3 (badInPlane a tops)
+
+-- rule 10, by what the search for a bad sample has found
+abbrev pub badRule : Found → Rule
+badRule (At place) = record { refusal = badAt place; applies = true }
+badRule Nothing = rule 10 false
 
 -- no element of s is above m
 abbrev pub NoneAbove : List ℕ → ℕ → Type 0
@@ -54,7 +64,7 @@ NoneAbove s m = (k : ℕ) → k < length s → getD s k 0 ≤ m
 
 -- every sample inside the picture is within its depth
 abbrev pub AllFine : List ℕ → ℕ → ℕ → ℕ → ℕ → Type 0
-AllFine p stride width height top = (j i : ℕ) → j < height → i < width → sampleAt p stride j i ≤ top
+AllFine p width height stride top = (j i : ℕ) → j < height → i < width → sampleAt p stride j i ≤ top
 
 -- row j and column i come before another row and column
 abbrev pub Before : ℕ → ℕ → ℕ → ℕ → Type 0
@@ -70,11 +80,24 @@ pub record IsFirstPlace (Fails Passes : ℕ → ℕ → Type 0) (plane width hei
 
 -- what it is to be the first bad sample of a plane
 abbrev pub IsFirstBad : List ℕ → ℕ → ℕ → ℕ → ℕ → ℕ → Place → Type 0
-IsFirstBad p plane stride width height top =
+IsFirstBad p plane width height stride top =
     IsFirstPlace (λ j i. top < sampleAt p stride j i) (λ j i. sampleAt p stride j i ≤ top) plane width height
 
--- and that of some planes
-pub record IsBadSample (planes : List (List ℕ)) (stride width height : ℕ) (tops : List ℕ) (place : Place) : Type 0 where
-  pub plane-inside : place .plane < length planes
-  pub first-there : IsFirstBad (getD planes (place .plane) []) (place .plane) stride width height (getD tops (place .plane) 0) place
-  pub fine-below : (k : ℕ) → k < place .plane → AllFine (getD planes k []) stride width height (getD tops k 0)
+-- plane k of a picture has no bad sample, and a place is that of its first
+abbrev pub FinePlane : Picture → Pixel → ℕ → Type 0
+FinePlane a tops k = AllFine (planeAt k a) (a .width) (a .height) (a .stride) (sampleOf k tops)
+
+abbrev pub IsBadInPlane : Picture → Pixel → ℕ → Place → Type 0
+IsBadInPlane a tops k = IsFirstBad (planeAt k a) k (a .width) (a .height) (a .stride) (sampleOf k tops)
+
+-- what it is to be the first bad sample of a picture
+pub record IsBadSample (a : Picture) (tops : Pixel) (place : Place) : Type 0 where
+  pub plane-inside : place .plane < 3
+  pub first-there : IsBadInPlane a tops (place .plane) place
+  pub fine-below : (k : ℕ) → k < place .plane → FinePlane a tops k
+
+-- no sample of a pixel is above that of tops in its plane
+pub record NotAbove (tops p : Pixel) : Type 0 where
+  pub within0 : p .p0 ≤ tops .p0
+  pub within1 : p .p1 ≤ tops .p1
+  pub within2 : p .p2 ≤ tops .p2

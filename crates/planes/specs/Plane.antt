@@ -5,7 +5,6 @@ use mathlib.Core.List.{List, [], _∷_, _++_}
 use Prim.Native.Nat.{ℕ, zero, suc, _+_, _*_, _-_, _/_, _%_, _<_}
 use lib.Dec.{ltb}
 use lib.ListN.{getD, take, drop}
-use Rattle.sample.specs.declared.Pixel.{Pixel}
 
 -- f 0, f 1, .., f (n - 1)
 unfoldable pub tab : ℕ → (ℕ → ℕ) → List ℕ
@@ -18,21 +17,16 @@ zeros n = tab n (λ _. 0)
 
 -- element k: the sample of its row and column where these lie inside the picture, and else 0
 unfoldable pub cell : ℕ → ℕ → ℕ → (ℕ → ℕ → ℕ) → ℕ → ℕ
-cell stride width height sample k =
+cell width height stride sample k =
     cond (ltb (k / stride) height && ltb (k % stride) width) (sample (k / stride) (k % stride)) 0
 
 -- an output plane of n elements after an accepted call
 unfoldable pub planeOf : ℕ → ℕ → ℕ → ℕ → (ℕ → ℕ → ℕ) → List ℕ
-planeOf n stride width height sample = tab n (cell stride width height sample)
+planeOf n width height stride sample = tab n (cell width height stride sample)
 
 -- the sample of a plane at row j and column i
 abbrev pub sampleAt : List ℕ → ℕ → ℕ → ℕ → ℕ
 sampleAt p stride j i = getD p (j * stride + i) 0
-
--- the pixel of three planes at row j and column i
-abbrev pub pixelAt : List ℕ → List ℕ → List ℕ → ℕ → ℕ → ℕ → Pixel
-pixelAt p0 p1 p2 stride j i =
-    record { p0 = sampleAt p0 stride j i; p1 = sampleAt p1 stride j i; p2 = sampleAt p2 stride j i }
 
 -- y with its part from a up to e replaced by ys
 abbrev pub patched : List ℕ → ℕ → ℕ → List ℕ → List ℕ
@@ -44,5 +38,5 @@ cleared y a e = patched y a e (zeros (e - a))
 
 -- p and q agree inside the picture
 abbrev pub SamePicture : ℕ → ℕ → ℕ → List ℕ → List ℕ → Type 0
-SamePicture stride width height p q =
+SamePicture width height stride p q =
     (j i : ℕ) → j < height → i < width → sampleAt p stride j i ≡ sampleAt q stride j i

@@ -6,7 +6,7 @@ ghost use Rattle.planes.specs.Sizes.{Long};
 ghost use Rattle.planes.specs.Plane.{zeros, cleared};
 
 // Every element becomes 0.
-pub fn zero_all(out: &mut [u16])
+fn zero_all(out: &mut [u16])
     ensures { λ _. ⌜ now (out .exit) ≡ zeros (length (now (out .entry))) ⌝ }
 {
     for i in 0..out.len() {
@@ -15,7 +15,7 @@ pub fn zero_all(out: &mut [u16])
 }
 
 // Every element from a up to e becomes 0.
-pub fn zero_part(out: &mut [u16], a: usize, e: usize)
+fn zero_part(out: &mut [u16], a: usize, e: usize)
     requires { ⌜ (a ≤ e) × (e ≤ length (now out)) ⌝ }
     ensures { λ _. ⌜ now (out .exit) ≡ cleared (now (out .entry)) a e ⌝ }
 {

@@ -1,14 +1,15 @@
-// Refusal 10: the first sample of a picture that is beyond its depth.
+// Rule 10: the first sample of a picture that is beyond its depth.
 ghost use mathlib.Core.Path.{_≡_};
-ghost use mathlib.Core.List.{[], _∷_};
 ghost use Prim.Native.Nat.{_≤_};
 ghost use lib.ListN.{length};
 ghost use Rattle.planes.specs.Sizes.{Sized, Long, needed};
+ghost use Rattle.planes.specs.Picture.{picture};
 ghost use Rattle.planes.specs.First.{NoneAbove, firstBad, badSample};
 use crate::size::row_start;
 use refusal::Place;
+use sample::Pixel;
 
-// What a search for a bad sample finds.
+// What a search finds.
 pub enum Found {
     At(Place),
     Nothing,
@@ -32,18 +33,18 @@ fn largest(s: &[u16]) -> u16
 pub fn first_bad(
     p: &[u16],
     plane: u8,
-    stride: usize,
     width: usize,
     height: usize,
+    stride: usize,
     top: u16,
 ) -> Found
     requires { ⌜ Sized width height stride ⌝ }
     requires { ⌜ needed width height stride ≤ length (now p) ⌝ }
-    ensures { λ r. ⌜ r ≡ firstBad (now (p .entry)) plane stride width height top ⌝ }
+    ensures { λ r. ⌜ r ≡ firstBad (now (p .entry)) plane width height stride top ⌝ }
 {
     let mut found = Found::Nothing;
     'rows: for j in 0..height {
-        let a = row_start(j, stride, height);
+        let a = row_start(j, height, stride);
         let e = a + width;
         if largest(&p[a..e]) <= top {
             continue;
@@ -60,29 +61,27 @@ pub fn first_bad(
     found
 }
 
-// The first bad sample of three planes, each with its own largest sample: in the lowest plane that has one.
+// The first bad sample of three planes, where `tops` has the largest sample of each: in the lowest plane that has one.
 pub fn first_bad_of_three(
-    p0: &[u16],
-    p1: &[u16],
-    p2: &[u16],
-    stride: usize,
+    a0: &[u16],
+    a1: &[u16],
+    a2: &[u16],
     width: usize,
     height: usize,
-    top0: u16,
-    top1: u16,
-    top2: u16,
+    stride: usize,
+    tops: Pixel,
 ) -> Found
     requires { ⌜ Sized width height stride ⌝ }
-    requires { ⌜ Long (needed width height stride) (length (now p0)) (length (now p1)) (length (now p2)) ⌝ }
-    ensures { λ r. ⌜ r ≡ badSample (now (p0 .entry) ∷ now (p1 .entry) ∷ now (p2 .entry) ∷ []) stride width height (top0 ∷ top1 ∷ top2 ∷ []) ⌝ }
+    requires { ⌜ Long (needed width height stride) (length (now a0)) (length (now a1)) (length (now a2)) ⌝ }
+    ensures { λ r. ⌜ r ≡ badSample (picture width height stride (now (a0 .entry)) (now (a1 .entry)) (now (a2 .entry))) tops ⌝ }
 {
-    let found0 = first_bad(p0, 0, stride, width, height, top0);
+    let found0 = first_bad(a0, 0, width, height, stride, tops.p0);
     if let Found::At(_) = found0 {
         return found0;
     }
-    let found1 = first_bad(p1, 1, stride, width, height, top1);
+    let found1 = first_bad(a1, 1, width, height, stride, tops.p1);
     if let Found::At(_) = found1 {
         return found1;
     }
-    first_bad(p2, 2, stride, width, height, top2)
+    first_bad(a2, 2, width, height, stride, tops.p2)
 }

@@ -1,17 +1,19 @@
-// Refusals 8 and 9: the sizes of a picture, and the lengths of its planes.
+// Rules 8 and 9: the sizes of a picture, and the lengths of its planes.
 ghost use mathlib.Core.Path.{_≡_};
 ghost use mathlib.Core.List.{[], _∷_};
 ghost use Prim.Native.Nat.{_≤_, _<_};
-ghost use Rattle.planes.specs.Sizes.{outside, pictureOutside, sideShort, sizeRefusal, mostSize, mostStride, RowStart, Sized};
+ghost use Rattle.refusal.specs.Rules.{first};
+ghost use Rattle.planes.specs.Sizes.{outside, sizeOutside, layoutShort, sizeRules, mostSize, mostStride, RowStart, Sized};
+use refusal::Check;
 use refusal::Refusal;
 
 // The largest width and height of a picture, and the largest stride of a plane.
-pub const MOST_SIZE: usize = 8192;
+const MOST_SIZE: usize = 8192;
 
-pub const MOST_STRIDE: usize = 16384;
+const MOST_STRIDE: usize = 16384;
 
-// One side of a picture: the stride of its three planes, and how many elements each has.
-pub struct Side {
+// How three planes lie in memory: their stride, and how many elements each has.
+pub struct Layout {
     pub stride: usize,
     pub n0: usize,
     pub n1: usize,
@@ -19,11 +21,11 @@ pub struct Side {
 }
 
 // Where row j of a plane starts.
-pub fn row_start(j: usize, stride: usize, height: usize) -> usize
+pub fn row_start(j: usize, height: usize, stride: usize) -> usize
     requires { ⌜ j < height ⌝ }
     requires { ⌜ height ≤ mostSize ⌝ }
     requires { ⌜ stride ≤ mostStride ⌝ }
-    ensures { λ r. ⌜ RowStart j stride height r ⌝ }
+    ensures { λ r. ⌜ RowStart j height stride r ⌝ }
 {
     j * stride
 }
@@ -41,26 +43,34 @@ fn outside(n: usize, least: usize, most: usize) -> bool
     false
 }
 
-// Whether the width or the height is outside 1..8192.
-fn picture_outside(width: usize, height: usize) -> bool
-    ensures { λ r. ⌜ r ≡ pictureOutside width height ⌝ }
+// Whether the width or the height is outside 1..8192, or a stride is too small for a row or too large.
+fn size_outside(width: usize, height: usize, a: Layout, b: Layout) -> bool
+    ensures { λ r. ⌜ r ≡ sizeOutside width height (a ∷ b ∷ []) ⌝ }
 {
+    let a_stride = a.stride;
+    let b_stride = b.stride;
     if outside(width, 1, MOST_SIZE) {
         return true;
     }
-    outside(height, 1, MOST_SIZE)
+    if outside(height, 1, MOST_SIZE) {
+        return true;
+    }
+    if outside(a_stride, width, MOST_STRIDE) {
+        return true;
+    }
+    outside(b_stride, width, MOST_STRIDE)
 }
 
-// Whether one of the side's planes ends before the picture does.
-fn side_short(width: usize, height: usize, side: Side) -> bool
-    requires { ⌜ Sized width height (side .stride) ⌝ }
-    ensures { λ r. ⌜ r ≡ sideShort width height side ⌝ }
+// Whether one of the layout's planes ends before the picture does.
+fn layout_short(width: usize, height: usize, x: Layout) -> bool
+    requires { ⌜ Sized width height (x .stride) ⌝ }
+    ensures { λ r. ⌜ r ≡ layoutShort width height x ⌝ }
 {
-    let stride = side.stride;
-    let n0 = side.n0;
-    let n1 = side.n1;
-    let n2 = side.n2;
-    let need = row_start(height - 1, stride, height) + width;
+    let stride = x.stride;
+    let n0 = x.n0;
+    let n1 = x.n1;
+    let n2 = x.n2;
+    let need = row_start(height - 1, height, stride) + width;
     if n0 < need {
         return true;
     }
@@ -73,26 +83,18 @@ fn side_short(width: usize, height: usize, side: Side) -> bool
     false
 }
 
-// Refusal 8 or 9 of a call that has two sides, or 0.
-pub fn size_refusal_two(width: usize, height: usize, a: Side, b: Side) -> u8
-    ensures { λ r. ⌜ r ≡ sizeRefusal width height (a ∷ b ∷ []) ⌝ }
+// Rules 8 and 9 of a call that has two layouts.
+pub fn check_sizes(width: usize, height: usize, a: Layout, b: Layout) -> Check
+    ensures { λ r. ⌜ r ≡ first (sizeRules width height (a ∷ b ∷ [])) ⌝ }
 {
-    let a_stride = a.stride;
-    let b_stride = b.stride;
-    if picture_outside(width, height) {
-        return Refusal::SIZE_OUTSIDE;
+    if size_outside(width, height, a, b) {
+        return Check::Refused(Refusal::numbered(Refusal::SIZE_OUTSIDE));
     }
-    if outside(a_stride, width, MOST_STRIDE) {
-        return Refusal::SIZE_OUTSIDE;
+    if layout_short(width, height, a) {
+        return Check::Refused(Refusal::numbered(Refusal::PLANE_SHORT));
     }
-    if outside(b_stride, width, MOST_STRIDE) {
-        return Refusal::SIZE_OUTSIDE;
+    if layout_short(width, height, b) {
+        return Check::Refused(Refusal::numbered(Refusal::PLANE_SHORT));
     }
-    if side_short(width, height, a) {
-        return Refusal::PLANE_SHORT;
-    }
-    if side_short(width, height, b) {
-        return Refusal::PLANE_SHORT;
-    }
-    0
+    Check::Passed
 }

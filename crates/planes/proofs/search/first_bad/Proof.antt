@@ -1,73 +1,50 @@
--- `planes::search::first_bad` meets its contract: nothing was found in the rows passed, nor in the columns of the row at hand.
-use mathlib.Core.Path.{_≡_, refl, sym, _∙_}
-use Prim.Native.Nat.{_≤_, _-_}
+-- `planes::search::first_bad` meets its contract: it walks over the picture, and passes a row over where the row's largest sample is fine.
+use mathlib.Core.Path.{_≡_}
+use mathlib.Core.List.{List}
+use Prim.Native.Nat.{ℕ, _+_, _*_, _-_, _≤_}
 use native.Mathlib.Omega.{arith}
 use borrow.Author.Needs.{needs}
-use Rattle.planes.specs.First.{firstOf, placeIf, placeInRow, firstPlace, isAbove, firstBad}
-use Rattle.planes.specs.declared.search.Found.the-variants.{Nothing}
-use Rattle.planes.proofs.Searches.{none-more, none-all, first-here, sample-bad, sample-fine, row-fine}
+use borrow.Author.Tests.{lt-ltb, le-ltb}
+use lib.ListN.{length, take, drop}
+use Rattle.planes.specs.Plane.{sampleAt}
+use Rattle.planes.specs.First.{isAbove, NoneAbove}
+use Rattle.planes.proofs.Tables.{part-width, part-sample}
+use Rattle.planes.proofs.Walks.{NoneBefore, Walked, walked-none, walked-column, walked-row, walked-over, walked-all, walked-here}
 use Rattle.planes.proofs.search.first_bad.Statement.{statement}
 use Rattle.planes.proofs.search.first_bad.Tie as tie
 
+-- row j starts at a, no sample of it is above m, and m is not above top
+row-fine : (p : List ℕ) (width stride top j a m : ℕ) → a ≡ j * stride → a + width ≤ length p
+    → NoneAbove (take (a + width - a) (drop a p)) m → m ≤ top → NoneBefore (isAbove p stride top) j width
+row-fine p width stride top j a m starts h e l i k =
+    le-ltb top (sampleAt p stride j i) (omega (arith, e i (omega (arith, part-width p a width h)), part-sample p stride j a width i starts k))
+
 abbrev Inv-loop : tie.InvT-loop
-Inv-loop p plane stride width height top found₀ j a e i₀ found i =
-    (i ≤ width) × ((found ≡ Nothing) × (firstOf i (placeIf (isAbove p stride top) plane j) ≡ Nothing))
+Inv-loop p plane width height stride top found₀ j a e i₀ found i = Walked (isAbove p stride top) width height found j i
 
 abbrev μ-loop : tie.MeasureT-loop
-μ-loop p plane stride width height top found₀ j a e i₀ found i = width - i
+μ-loop p plane width height stride top found₀ j a e i₀ found i = width - i
 
 abbrev Inv-rows : tie.InvT-rows
-Inv-rows p plane stride width height top found₀ j₀ found j =
-    (j ≤ height) × ((found ≡ Nothing) × (firstOf j (placeInRow (isAbove p stride top) plane width) ≡ Nothing))
+Inv-rows p plane width height stride top found₀ j₀ found j = Walked (isAbove p stride top) width height found j 0
 
 abbrev μ-rows : tie.MeasureT-rows
-μ-rows p plane stride width height top found₀ j₀ found j = height - j
-
-rows-holds : tie.Need-rows-holds Inv-loop μ-loop Inv-rows μ-rows
-unfolding firstOf
-rows-holds c = search needs
+μ-rows p plane width height stride top found₀ j₀ found j = height - j
 
 rows-again : tie.Need-rows-again Inv-loop μ-loop Inv-rows μ-rows
 rows-again c =
-    let r = c .before .before .before .before .before .rows in
-    let none =
-    row-fine _ _ _ _ _ _ (c .before .before .before .row-start .ensures .is) _ _ (omega arith) (c .before .largest .ensures) (c .if1 .taken) in
-    (omega arith, (r .inv .1 .0, none-more _ (r .j) (r .inv .1 .1) none))
-
-loop-holds : tie.Need-loop-holds Inv-loop μ-loop Inv-rows μ-rows
-unfolding firstOf
-loop-holds c = (omega arith, (c .before .before .before .before .before .rows .inv .1 .0, refl))
+    walked-over (c .before .before .before .before .before .rows .inv) (omega arith)
+    (row-fine _ _ _ _ _ _ _ (c .before .before .before .row-start .ensures .is) (omega arith) (c .before .largest .ensures) (c .if1 .taken))
 
 loop-again : tie.Need-loop-again Inv-loop μ-loop Inv-rows μ-rows
 loop-again c =
-    let l = c .before .before .before .loop in
-    let x = c .before .before .before .before .before .before .before .before .before .before .before .args in
-    let none = sample-fine (x .p .now) (x .plane) _ _ _ _ (c .before .before .before .before .before .before .before .row-start .ensures .is) (l .i) (c .if2 .left) in
-    (omega arith, (l .inv .1 .0, none-more _ (l .i) (l .inv .1 .1) none))
-
-rows-again-2 : tie.Need-rows-again-2 Inv-loop μ-loop Inv-rows μ-rows
-unfolding placeInRow
-rows-again-2 c =
-    let r = c .before .before .before .before .before .before .before .rows in
-    let l = c .before .loop in
-    (omega arith, (l .inv .1 .0, none-more _ (r .j) (r .inv .1 .1) (none-all _ (l .i) _ (omega arith) (l .inv .1 .1))))
-
-returns : tie.Need-returns Inv-loop μ-loop Inv-rows μ-rows
-unfolding firstBad firstPlace
-returns c =
-    let r = c .before .rows in
-    r .inv .1 .0 ∙ sym (none-all _ (r .j) _ (omega arith) (r .inv .1 .1))
+    let starts = c .before .before .before .before .before .before .before .row-start .ensures .is in
+    walked-column (c .before .before .before .loop .inv) (omega arith) (rw (← starts) (le-ltb _ _ (c .if2 .left)))
 
 returns-2 : tie.Need-returns-2 Inv-loop μ-loop Inv-rows μ-rows
-unfolding firstBad firstPlace placeInRow
 returns-2 c =
-    let r = c .before .before .before .before .before .before .before .before .before .rows in
-    let l = c .before .before .before .loop in
-    let x = c .before .before .before .before .before .before .before .before .before .before .before .args in
-    let found = sample-bad (x .p .now) (x .plane) _ _ _ _ (c .before .before .before .before .before .before .before .row-start .ensures .is) (l .i) (c .if2 .taken) in
-    sym
-    (first-here _ _ (r .j) _ (omega arith) (r .inv .1 .1)
-    (first-here _ _ (l .i) _ (omega arith) (l .inv .1 .1) found))
+    let starts = c .before .before .before .before .before .before .before .row-start .ensures .is in
+    walked-here (c .before .before .before .loop .inv) _ (omega arith) (omega arith) (rw (← starts) (lt-ltb _ _ (c .if2 .taken)))
 
 pub first-bad-spec : {M : Type 1} → statement M
 first-bad-spec =
@@ -77,7 +54,7 @@ first-bad-spec =
     μ-loop
     Inv-rows
     μ-rows
-    rows-holds
+    (λ c. walked-none)
     (λ c κs. search needs)
     (λ c. search needs)
     (λ c. search needs)
@@ -88,7 +65,7 @@ first-bad-spec =
     (λ c. search needs)
     (λ c. search needs)
     rows-again
-    loop-holds
+    (λ c. search needs)
     (λ c. search needs)
     (λ c. search needs)
     (λ c. search needs)
@@ -99,6 +76,6 @@ first-bad-spec =
     loop-again
     (λ c. search needs)
     (λ c. search needs)
-    rows-again-2
-    returns
+    (λ c. walked-row (c .before .loop .inv) (omega arith) (omega arith))
+    (λ c. walked-all (c .before .rows .inv) _ (omega arith))
     returns-2)

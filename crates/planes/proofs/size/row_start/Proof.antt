@@ -6,7 +6,7 @@ use Rattle.planes.proofs.size.row_start.Tie as tie
 
 mul-result : tie.Need-mul-result
 mul-result c =
-    omega (arith, row-start (c .args .j) (c .args .stride) (c .args .height) (omega arith) (omega arith) (omega arith))
+    omega (arith, row-start (c .args .j) (c .args .height) (c .args .stride) (omega arith) (omega arith) (omega arith))
 
 returns : tie.Need-returns
 returns c = row-start _ _ _ (omega arith) (omega arith) (omega arith)
