@@ -6,7 +6,7 @@ use native.Mathlib.Omega.{arith}
 use lib.IntN.{ℤ, pos, negsuc, negℤ, _*ℤ_}
 use Rattle.rounding.specs.Rounding.{round}
 use Rattle.rounding.proofs.Difference.{Parts, parts, parts-of}
-use Rattle.rounding.proofs.Closers.{same, apart, round-down}
+use Rattle.rounding.proofs.FromParts.{same, apart, round-down}
 use Rattle.fraction.specs.Fraction.{Frac, _≈_, Round}
 
 -- sums of products in one order, so that `omega` meets each product once

@@ -6,7 +6,7 @@ use native.Mathlib.Nat.{one-mul}
 use native.Mathlib.Omega.{arith}
 use lib.IntN.{ℤ, pos, natAbs, _+ℤ_, _-ℤ_, _*ℤ_}
 use Rattle.rounding.proofs.Difference.{Parts, parts, parts-of}
-use Rattle.rounding.proofs.Closers.{same, absolute}
+use Rattle.rounding.proofs.FromParts.{same, absolute}
 use Rattle.fraction.specs.Fraction.{Frac, _⊖_, _⊗_, _÷_, part, whole}
 use Rattle.fraction.proofs.Value.{Value, ⊕-value, ⊖-value, ⊗-value, ÷-value, lift, rename}
 use Rattle.levels.specs.Paper.{KG, EY, EPB, EPR, ER, EG, EB}

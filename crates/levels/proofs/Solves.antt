@@ -5,7 +5,7 @@ use native.Mathlib.Nat.{mul-pos}
 use native.Mathlib.Omega.{arith}
 use lib.IntN.{ℤ, pos, _+ℤ_, _-ℤ_, _*ℤ_}
 use Rattle.rounding.proofs.Difference.{parts, parts-of}
-use Rattle.rounding.proofs.Closers.{same}
+use Rattle.rounding.proofs.FromParts.{same}
 use Rattle.fraction.specs.Fraction.{Frac, _⊖_, _÷_, SameValue}
 use Rattle.fraction.proofs.Same.{ring}
 use Rattle.fraction.proofs.Value.{Value, lift, rename, both, itself}

@@ -7,7 +7,7 @@ use native.Mathlib.Omega.{arith}
 use lib.IntN.{ℤ, pos, _+ℤ_, _-ℤ_, _*ℤ_, +ℤ-idr}
 use Rattle.rounding.specs.Rounding.{round, clip}
 use Rattle.rounding.proofs.Difference.{parts, parts-of}
-use Rattle.rounding.proofs.Closers.{same}
+use Rattle.rounding.proofs.FromParts.{same}
 use Rattle.fraction.specs.Fraction.{Frac, _⊕_, _⊗_, whole, Round}
 use Rattle.fraction.proofs.Same.{ring, by-parts}
 use Rattle.fraction.proofs.Value.{Value, ⊕-value, ⊗-value, lift, rename, Round-value, itself}

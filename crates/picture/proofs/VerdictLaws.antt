@@ -5,7 +5,7 @@ use mathlib.Core.List.{List, [], _∷_}
 use Prim.Native.Nat.{ℕ}
 use borrow.Author.Tests.{eqb-true, eqb-false, ne-eqb}
 use lib.Dec.{eqb}
-use Rattle.sample.proofs.Picks.{chose-first, chose-second}
+use Rattle.sample.proofs.Choices.{chose-first, chose-second}
 use Rattle.refusal.specs.Table.{plain, badAt}
 use Rattle.refusal.specs.declared.Refusal.{Refusal}
 use Rattle.setting.specs.Refusals.{depths, served, refusalOf, judged, verdictOf}

@@ -8,7 +8,7 @@ use native.Mathlib.Omega.{arith}
 use borrow.Author.Tests.{ltb-true}
 use lib.Dec.{ltb}
 use lib.ListN.{length, getD}
-use Rattle.sample.proofs.Picks.{both-true, cannot}
+use Rattle.sample.proofs.Choices.{both-true, cannot}
 use Rattle.planes.specs.Plane.{cell, planeOf, sampleAt, SamePicture}
 use Rattle.planes.specs.Picture.{Picture, picture, pixelOf}
 use Rattle.planes.proofs.Tables.{length-tab, tab-at, tab-same}

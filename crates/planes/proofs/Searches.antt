@@ -5,7 +5,7 @@ use mathlib.Core.Logic.{_↔_, ⊎-elim, inl, inr}
 use Prim.Native.Nat.{ℕ, zero, suc, _<_}
 use native.Mathlib.Nat.{eq-or-lt-of-le, le-of-suc-le-suc, not-suc-le-zero}
 use native.Mathlib.Omega.{arith}
-use Rattle.sample.proofs.Picks.{chose-first, chose-second}
+use Rattle.sample.proofs.Choices.{chose-first, chose-second}
 use Rattle.refusal.specs.Rules.{at}
 use Rattle.refusal.specs.declared.Place.{Place}
 use Rattle.planes.specs.First.{orFound, firstOf, placeIf, placeInRow, firstPlace, IsFirstPlace}

@@ -8,7 +8,7 @@ use native.Mathlib.Nat.{mul-le-mul, mul-le-mul-right}
 use native.Mathlib.Omega.{arith}
 use borrow.Author.Tests.{ltb-false, le-ltb}
 use lib.Dec.{ltb}
-use Rattle.sample.proofs.Picks.{neither}
+use Rattle.sample.proofs.Choices.{neither}
 use Rattle.planes.specs.declared.size.Layout.{Layout}
 use Rattle.planes.specs.Sizes.{mostSize, mostStride, outside, strideOutside, sizeOutside, anyShort, layoutShort, someLayout, RowStart, Within, StrideWithin, LongEnough, EveryLayout, SizesWithin, PlanesLong}
 

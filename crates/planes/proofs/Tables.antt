@@ -10,12 +10,6 @@ use lib.ListN.{length, getD, take, drop, set, length-append, length-set, length-
 use lib.Seq.{take-suc-set, take-all, take-at, getD-at, getD-take, getD-drop}
 use Rattle.planes.specs.Plane.{tab, sampleAt, patched}
 
--- a number is below another or not
-pub below-or-not : (a b : ℕ) → (a < b) ⊎ (b ≤ a)
-below-or-not a zero = inr (omega arith)
-below-or-not zero (suc b) = inl (omega arith)
-below-or-not (suc a) (suc b) = ⊎-elim (λ p. inl (omega arith)) (λ q. inr (omega arith)) (below-or-not a b)
-
 pub length-tab : (n : ℕ) (f : ℕ → ℕ) → length (tab n f) ≡ n
 unfolding tab
 length-tab zero f = refl

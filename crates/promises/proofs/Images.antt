@@ -9,7 +9,7 @@ use native.Mathlib.Omega.{arith}
 use borrow.Author.Tests.{not-true, not-false}
 use lib.ListN.{length}
 use Rattle.sample.specs.Depth.{InsideRGB, InsideYCC}
-use Rattle.sample.proofs.Picks.{must}
+use Rattle.sample.proofs.Choices.{must}
 use Rattle.refusal.specs.Table.{row, first, orElse}
 use Rattle.refusal.specs.declared.Place.{Place}
 use Rattle.refusal.proofs.TableLaws.{neither}

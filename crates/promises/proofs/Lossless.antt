@@ -6,7 +6,7 @@ use Prim.Native.Nat.{ℕ}
 use native.Mathlib.Omega.{arith}
 use Rattle.sample.specs.Depth.{InsideRGB, InsideYCC}
 use Rattle.sample.specs.declared.Pixel.{Pixel}
-use Rattle.sample.proofs.Picks.{cannot}
+use Rattle.sample.proofs.Choices.{cannot}
 use Rattle.setting.specs.Refusals.{depths, served, judged, refusalOf}
 use Rattle.setting.specs.declared.Call.the-variants as call
 use Rattle.setting.specs.declared.Setting.{Setting}

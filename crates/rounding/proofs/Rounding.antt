@@ -5,7 +5,7 @@ use native.Mathlib.Omega.{arith}
 use lib.IntN.{pos, negℤ, _+ℤ_, _-ℤ_}
 use Rattle.rounding.specs.Rounding.{round, clip}
 use Rattle.rounding.proofs.Difference.{parts, parts-sub}
-use Rattle.rounding.proofs.Closers.{clip-of, round-up, round-down}
+use Rattle.rounding.proofs.FromParts.{clip-of, round-up, round-down}
 
 -- the size of p - q over den, halves away from zero
 abbrev pub nearest : ℕ → ℕ → ℕ

@@ -8,7 +8,7 @@ use lib.Pow.{pow-pos, pow-add, pow-mono}
 use Rattle.sample.specs.Depth.{isDepth, Depth, areDepths, ThreeDepths, atMost}
 use Rattle.sample.specs.declared.Depths.{Depths}
 use Rattle.sample.specs.declared.DepthsChecked.the-variants as checked
-use Rattle.sample.proofs.Picks.{both-true, le-and, cannot, chose-first, chose-second}
+use Rattle.sample.proofs.Choices.{both-true, le-and, cannot, chose-first, chose-second}
 
 pub depth-yes : {n : ℕ} → Depth n → isDepth n ≡ true
 unfolding isDepth

@@ -1,3 +1,3 @@
 -- Laws of depths, and of choices by a test.
-pub mod Picks
+pub mod Choices
 pub mod DepthLaws

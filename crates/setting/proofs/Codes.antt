@@ -8,7 +8,7 @@ use Prim.Native.Nat.{ℕ, zero, suc, _≤_, _<_}
 use native.Mathlib.Nat.{eq-or-lt-of-le, le-of-suc-le-suc, not-suc-le-zero}
 use borrow.Author.Tests.{le-leb, lt-ltb, ne-eqb}
 use lib.Dec.{eqb, leb, ltb}
-use Rattle.sample.proofs.Picks.{both-true}
+use Rattle.sample.proofs.Choices.{both-true}
 
 pub data Clue : Type 0 where
   isNot atLeast under : ℕ → Clue

@@ -11,7 +11,7 @@ use lib.ListN.{getD}
 use Rattle.sample.specs.Depth.{mostLevelDepth, areDepths, atMost, ThreeDepths}
 use Rattle.sample.specs.declared.Depths.{Depths}
 use Rattle.sample.proofs.DepthLaws.{AtMost, depths-of, at-most-of}
-use Rattle.sample.proofs.Picks.{both-true}
+use Rattle.sample.proofs.Choices.{both-true}
 use Rattle.refusal.specs.Rules.{first}
 use Rattle.refusal.specs.declared.Check.the-variants.{Passed}
 use Rattle.refusal.proofs.RuleLaws.{passed-over}

@@ -5,7 +5,7 @@ use native.Mathlib.Omega.{arith}
 use lib.IntN.{ℤ, pos, _+ℤ_, _-ℤ_, _*ℤ_}
 use Rattle.rounding.specs.Rounding.{half, round, clip, sample}
 use Rattle.rounding.proofs.Difference.{parts}
-use Rattle.rounding.proofs.Closers.{same, is-sample, round-up, clip-within}
+use Rattle.rounding.proofs.FromParts.{same, is-sample, round-up, clip-within}
 
 -- lossless forward
 module _ (H r g b : ℕ) where

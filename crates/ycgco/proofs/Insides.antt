@@ -2,18 +2,15 @@
 use mathlib.Core.Path.{subst, sym}
 use Prim.Native.Nat.{ℕ, _+_, _-_, _*_, _/_, _^_, _≤_, _<_}
 use native.Mathlib.Omega.{arith}
-use lib.IntN.{ℤ, pos}
-use lib.Pow.{pow-pos, pow-mono}
-use Rattle.rounding.specs.Rounding.{Clip, sample}
-use Rattle.rounding.proofs.Closers.{clip-most}
+use lib.IntN.{pos}
+use lib.Pow.{pow-mono}
+use Rattle.rounding.specs.Rounding.{sample}
+use Rattle.rounding.proofs.FromParts.{clipped}
 use Rattle.sample.specs.Depth.{InsideRGB, InsideYCC}
 use Rattle.sample.specs.declared.Depths.{Depths}
 use Rattle.sample.specs.declared.Pixel.{Pixel}
 use Rattle.ycgco.specs.YCgCo.{losslessReverse, lossyForward, lossyReverse}
 use Rattle.ycgco.proofs.Arithmetic.{sum-round}
-
-pub clipped : (n : ℕ) (z : ℤ) → Clip n z < 2 ^ n
-clipped n z = let u = clip-most (2 ^ n - 1) z in let v = pow-pos n in omega arith
 
 module _ (d : Depths) (p : Pixel) where
   -- whatever a reverse is handed

@@ -7,12 +7,12 @@ use lib.IntN.{pos, _+ℤ_, _-ℤ_}
 use lib.Pow.{pow-mono}
 use Rattle.rounding.specs.Rounding.{half, clip}
 use Rattle.rounding.proofs.Difference.{parts}
-use Rattle.rounding.proofs.Closers.{is-pos, clip-within}
+use Rattle.rounding.proofs.FromParts.{is-pos, clip-within}
 use Rattle.sample.specs.Depth.{InsideRGB, InsideYCC}
 use Rattle.sample.specs.declared.Depths.{Depths}
 use Rattle.sample.specs.declared.Pixel.{Pixel}
 use Rattle.sample.proofs.DepthLaws.{doubles}
-use Rattle.ycgco.specs.YCgCo.{Roomy, YOf, CbOf, CrOf, losslessForward, losslessReverse}
+use Rattle.ycgco.specs.YCgCo.{LosslessDepths, YOf, CbOf, CrOf, losslessForward, losslessReverse}
 use Rattle.ycgco.proofs.Arithmetic.{lossless-y, lossless-cb, lossless-cr}
 
 abbrev t : Pixel → ℕ
@@ -25,7 +25,7 @@ middle d = 2 ^ (d .chroma .0 - 1)
 abbrev plainly : Depths → Pixel → Pixel
 plainly d p = record { p0 = (p .p1 + t p) / 2; p1 = p .p1 + middle d - t p; p2 = p .p0 + middle d - p .p2 }
 
-module _ (d : Depths) (p : Pixel) (k : Roomy d) (h : InsideRGB d p) where
+module _ (d : Depths) (p : Pixel) (k : LosslessDepths d) (h : InsideRGB d p) where
   above : 2 ^ (d .rgb .0) ≤ middle d
   above = pow-mono {j = d .chroma .0 - 1} (omega (arith, k .chroma-room))
 

@@ -1,13 +1,13 @@
 // YCgCo, one pixel at a time. Nothing is negative on the way: the middle of the chroma plane is added before anything is taken away.
 ghost use mathlib.Core.Path.{_≡_};
 ghost use Rattle.sample.specs.Depth.{InsideRGB};
-ghost use Rattle.ycgco.specs.YCgCo.{lossyForward, lossyReverse, losslessForward, losslessReverse, Plain, Roomy};
+ghost use Rattle.ycgco.specs.YCgCo.{lossyForward, lossyReverse, losslessForward, losslessReverse, LossyDepths, LosslessDepths};
 use sample::Depths;
 use sample::Pixel;
 
 // 48 to 50
 pub fn lossy_forward(d: Depths, p: Pixel) -> Pixel
-    requires { ⌜ Plain d ⌝ }
+    requires { ⌜ LossyDepths d ⌝ }
     ensures { λ r. ⌜ r ≡ lossyForward d p ⌝ }
 {
     let c = d.chroma.0;
@@ -24,7 +24,7 @@ pub fn lossy_forward(d: Depths, p: Pixel) -> Pixel
 
 // 51 to 54
 pub fn lossy_reverse(d: Depths, p: Pixel) -> Pixel
-    requires { ⌜ Plain d ⌝ }
+    requires { ⌜ LossyDepths d ⌝ }
     ensures { λ r. ⌜ r ≡ lossyReverse d p ⌝ }
 {
     let c = d.chroma.0;
@@ -42,7 +42,7 @@ pub fn lossy_reverse(d: Depths, p: Pixel) -> Pixel
 
 // 55 to 58
 pub fn lossless_forward(d: Depths, p: Pixel) -> Pixel
-    requires { ⌜ Roomy d ⌝ }
+    requires { ⌜ LosslessDepths d ⌝ }
     requires { ⌜ InsideRGB d p ⌝ }
     ensures { λ r. ⌜ r ≡ losslessForward d p ⌝ }
 {
@@ -64,7 +64,7 @@ pub fn lossless_forward(d: Depths, p: Pixel) -> Pixel
 
 // 59 to 62
 pub fn lossless_reverse(d: Depths, p: Pixel) -> Pixel
-    requires { ⌜ Roomy d ⌝ }
+    requires { ⌜ LosslessDepths d ⌝ }
     ensures { λ r. ⌜ r ≡ losslessReverse d p ⌝ }
 {
     let c = d.chroma.0;

@@ -6,7 +6,7 @@ use lib.IntN.{pos, _-ℤ_}
 use mir.Syntax.{w32}
 use mir.Val.{toZ, ofZ}
 use Rattle.rounding.proofs.Difference.{parts}
-use Rattle.rounding.proofs.Closers.{signed-fits, reads-back}
+use Rattle.rounding.proofs.FromParts.{signed-fits, reads-back}
 use Rattle.meter.proofs.Exact.{in-float, numerator-size}
 use Rattle.meter.proofs.level.Statement.{statement}
 use Rattle.meter.proofs.level.Tie as tie

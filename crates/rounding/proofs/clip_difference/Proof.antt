@@ -3,7 +3,7 @@ use mathlib.Core.Path.{sym}
 use native.Mathlib.Omega.{arith}
 use borrow.Author.Needs.{needs}
 use Rattle.rounding.proofs.Difference.{parts}
-use Rattle.rounding.proofs.Closers.{clip-low, clip-high, clip-within}
+use Rattle.rounding.proofs.FromParts.{clip-low, clip-high, clip-within}
 use Rattle.rounding.proofs.clip_difference.Statement.{statement}
 use Rattle.rounding.proofs.clip_difference.Tie as tie
 

@@ -2,7 +2,7 @@
 use mathlib.Core.Path.{ap, _∙_}
 use Prim.Native.Nat.{_-_, _^_}
 use lib.IntN.{pos, _+ℤ_, _-ℤ_}
-use Rattle.rounding.proofs.Closers.{clip-same}
+use Rattle.rounding.proofs.FromParts.{clip-same}
 use Rattle.ycgco.specs.YCgCo.{losslessReverse}
 use Rattle.ycgco.proofs.Arithmetic.{lossless-g, lossless-b, lossless-r}
 use borrow.Author.Needs.{needs}

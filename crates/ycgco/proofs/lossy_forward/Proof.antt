@@ -4,7 +4,7 @@ use Prim.Native.Nat.{_-_}
 use native.Mathlib.Omega.{arith}
 use lib.IntN.{pos, _+ℤ_, _-ℤ_}
 use Rattle.rounding.specs.Rounding.{round}
-use Rattle.rounding.proofs.Closers.{clip-same}
+use Rattle.rounding.proofs.FromParts.{clip-same}
 use Rattle.sample.proofs.DepthLaws.{doubles}
 use Rattle.ycgco.specs.YCgCo.{lossyForward}
 use Rattle.ycgco.proofs.Arithmetic.{lossy-y, lossy-cb}

@@ -1,7 +1,7 @@
 -- `ycgco::lossy_reverse` meets its contract: each sample is a clipped difference.
 use mathlib.Core.Path.{ap, _∙_}
 use Prim.Native.Nat.{_-_, _^_}
-use Rattle.rounding.proofs.Closers.{clip-same}
+use Rattle.rounding.proofs.FromParts.{clip-same}
 use Rattle.ycgco.specs.YCgCo.{lossyReverse}
 use Rattle.ycgco.proofs.Arithmetic.{lossy-r, lossy-g, lossy-b}
 use borrow.Author.Needs.{needs}

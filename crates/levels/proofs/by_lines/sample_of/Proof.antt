@@ -6,7 +6,7 @@ use lib.IntN.{pos, _+ℤ_}
 use borrow.Author.Needs.{needs}
 use Rattle.rounding.specs.Rounding.{round, clip}
 use Rattle.rounding.proofs.Difference.{parts, parts-sub}
-use Rattle.rounding.proofs.Closers.{same}
+use Rattle.rounding.proofs.FromParts.{same}
 use Rattle.levels.specs.Lines.{lineAt}
 use Rattle.levels.proofs.Bounds.{Terms, terms}
 use Rattle.levels.proofs.by_lines.sample_of.Statement.{statement}

@@ -4,7 +4,7 @@ use mathlib.Core.Bool.{true}
 use Prim.Native.Nat.{ℕ}
 use native.Mathlib.Omega.{arith}
 use borrow.Author.Needs.{needs}
-use Rattle.sample.proofs.Picks.{must}
+use Rattle.sample.proofs.Choices.{must}
 use Rattle.planes.specs.Sizes.{layoutShort, LongEnough}
 use Rattle.planes.specs.declared.size.Layout.{Layout}
 use Rattle.planes.proofs.SizeLaws.{long-exactly}

@@ -10,7 +10,7 @@ use Rattle.sample.specs.declared.ChromaDepth.{ChromaDepth}
 use Rattle.sample.specs.declared.RgbChecked.the-variants as rgb
 use Rattle.sample.specs.declared.LumaChecked.the-variants as luma
 use Rattle.sample.specs.declared.ChromaChecked.the-variants as chroma
-use Rattle.sample.proofs.Picks.{chose-first, chose-second}
+use Rattle.sample.proofs.Choices.{chose-first, chose-second}
 use Rattle.sample.proofs.Depths.checked.Statement.{statement}
 use Rattle.sample.proofs.Depths.checked.Tie as tie
 

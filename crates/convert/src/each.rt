@@ -1,0 +1,193 @@
+// One loop for each kind of formulas.
+ghost use mathlib.Core.Path.{_≡_};
+ghost use Prim.Native.Nat.{_<_};
+ghost use lib.ListN.{length, set};
+ghost use Rattle.sample.specs.Depth.{InsideRGB};
+ghost use Rattle.ycgco.specs.YCgCo.{lossyForward, lossyReverse, losslessForward, losslessReverse, LossyDepths, LosslessDepths};
+ghost use Rattle.levels.specs.Lines.{lineSample, linesPixel};
+ghost use Rattle.levels.specs.Room.{Ready, AllReady};
+ghost use Rattle.levels.specs.Conversion.{SamplesServed};
+ghost use Rattle.convert.specs.Row.{pixelIn, rowBy, ConvertedRows, EveryOf, OneWidth};
+use levels::lines::Lines;
+use levels::lines::ReadyLine;
+use sample::Depths;
+use sample::Pixel;
+
+// The pixel at index i of three rows.
+fn pixel_in(a0: &[u16], a1: &[u16], a2: &[u16], i: usize) -> Pixel
+    requires { ⌜ i < length (now a0) ⌝ }
+    requires { ⌜ i < length (now a1) ⌝ }
+    requires { ⌜ i < length (now a2) ⌝ }
+    ensures { λ r. ⌜ r ≡ pixelIn (now (a0 .entry)) (now (a1 .entry)) (now (a2 .entry)) i ⌝ }
+{
+    Pixel {
+        p0: a0[i],
+        p1: a1[i],
+        p2: a2[i],
+    }
+}
+
+// A pixel, stored at index i of three rows.
+fn put(b0: &mut [u16], b1: &mut [u16], b2: &mut [u16], i: usize, p: Pixel)
+    requires { ⌜ i < length (now b0) ⌝ }
+    requires { ⌜ i < length (now b1) ⌝ }
+    requires { ⌜ i < length (now b2) ⌝ }
+    ensures { λ _. ⌜ now (b0 .exit) ≡ set (now (b0 .entry)) i (p .p0) ⌝ }
+    ensures { λ _. ⌜ now (b1 .exit) ≡ set (now (b1 .entry)) i (p .p1) ⌝ }
+    ensures { λ _. ⌜ now (b2 .exit) ≡ set (now (b2 .entry)) i (p .p2) ⌝ }
+{
+    b0[i] = p.p0;
+    b1[i] = p.p1;
+    b2[i] = p.p2;
+}
+
+// One row of samples, as it is.
+fn copy(a: &[u16], b: &mut [u16])
+    requires { ⌜ length (now b) ≡ length (now a) ⌝ }
+    ensures { λ _. ⌜ now (b .exit) ≡ now (a .entry) ⌝ }
+{
+    for i in 0..a.len() {
+        b[i] = a[i];
+    }
+}
+
+// Three rows, each as it is.
+pub fn copy_three(
+    a0: &[u16],
+    a1: &[u16],
+    a2: &[u16],
+    b0: &mut [u16],
+    b1: &mut [u16],
+    b2: &mut [u16],
+)
+    requires { ⌜ length (now b0) ≡ length (now a0) ⌝ }
+    requires { ⌜ length (now b1) ≡ length (now a1) ⌝ }
+    requires { ⌜ length (now b2) ≡ length (now a2) ⌝ }
+    ensures { λ _. ⌜ now (b0 .exit) ≡ now (a0 .entry) ⌝ }
+    ensures { λ _. ⌜ now (b1 .exit) ≡ now (a1 .entry) ⌝ }
+    ensures { λ _. ⌜ now (b2 .exit) ≡ now (a2 .entry) ⌝ }
+{
+    copy(a0, b0);
+    copy(a1, b1);
+    copy(a2, b2);
+}
+
+// One plane by its line.
+fn line_plane(line: ReadyLine, a0: &[u16], a1: &[u16], a2: &[u16], b: &mut [u16])
+    requires { ⌜ Ready line ⌝ }
+    requires { ⌜ length (now a1) ≡ length (now a0) ⌝ }
+    requires { ⌜ length (now a2) ≡ length (now a0) ⌝ }
+    requires { ⌜ length (now b) ≡ length (now a0) ⌝ }
+    requires { ⌜ EveryOf SamplesServed (now a0) (now a1) (now a2) ⌝ }
+    ensures { λ _. ⌜ now (b .exit) ≡ rowBy (lineSample (line .line)) (now (a0 .entry)) (now (a1 .entry)) (now (a2 .entry)) ⌝ }
+{
+    for i in 0..a0.len() {
+        let p = pixel_in(a0, a1, a2, i);
+        b[i] = levels::by_lines::sample_of(line, p);
+    }
+}
+
+// A level matrix, a plane at a time, so that one line's numbers stay at hand.
+pub fn by_lines(
+    lines: Lines,
+    a0: &[u16],
+    a1: &[u16],
+    a2: &[u16],
+    b0: &mut [u16],
+    b1: &mut [u16],
+    b2: &mut [u16],
+)
+    requires { ⌜ AllReady lines ⌝ }
+    requires { ⌜ OneWidth (now a0) (now a1) (now a2) (now b0) (now b1) (now b2) ⌝ }
+    requires { ⌜ EveryOf SamplesServed (now a0) (now a1) (now a2) ⌝ }
+    ensures { λ _. ⌜ ConvertedRows (linesPixel lines) (now (a0 .entry)) (now (a1 .entry)) (now (a2 .entry)) (now (b0 .exit)) (now (b1 .exit)) (now (b2 .exit)) ⌝ }
+{
+    line_plane(lines.first, a0, a1, a2, b0);
+    line_plane(lines.second, a0, a1, a2, b1);
+    line_plane(lines.third, a0, a1, a2, b2);
+}
+
+// The lossy formulas, forward.
+pub fn lossy_forward(
+    d: Depths,
+    a0: &[u16],
+    a1: &[u16],
+    a2: &[u16],
+    b0: &mut [u16],
+    b1: &mut [u16],
+    b2: &mut [u16],
+)
+    requires { ⌜ LossyDepths d ⌝ }
+    requires { ⌜ OneWidth (now a0) (now a1) (now a2) (now b0) (now b1) (now b2) ⌝ }
+    ensures { λ _. ⌜ ConvertedRows (lossyForward d) (now (a0 .entry)) (now (a1 .entry)) (now (a2 .entry)) (now (b0 .exit)) (now (b1 .exit)) (now (b2 .exit)) ⌝ }
+{
+    for i in 0..a0.len() {
+        let p = pixel_in(a0, a1, a2, i);
+        let q = ycgco::lossy_forward(d, p);
+        put(b0, b1, b2, i, q);
+    }
+}
+
+// The lossy formulas, back.
+pub fn lossy_reverse(
+    d: Depths,
+    a0: &[u16],
+    a1: &[u16],
+    a2: &[u16],
+    b0: &mut [u16],
+    b1: &mut [u16],
+    b2: &mut [u16],
+)
+    requires { ⌜ LossyDepths d ⌝ }
+    requires { ⌜ OneWidth (now a0) (now a1) (now a2) (now b0) (now b1) (now b2) ⌝ }
+    ensures { λ _. ⌜ ConvertedRows (lossyReverse d) (now (a0 .entry)) (now (a1 .entry)) (now (a2 .entry)) (now (b0 .exit)) (now (b1 .exit)) (now (b2 .exit)) ⌝ }
+{
+    for i in 0..a0.len() {
+        let p = pixel_in(a0, a1, a2, i);
+        let q = ycgco::lossy_reverse(d, p);
+        put(b0, b1, b2, i, q);
+    }
+}
+
+// The lossless formulas, forward.
+pub fn lossless_forward(
+    d: Depths,
+    a0: &[u16],
+    a1: &[u16],
+    a2: &[u16],
+    b0: &mut [u16],
+    b1: &mut [u16],
+    b2: &mut [u16],
+)
+    requires { ⌜ LosslessDepths d ⌝ }
+    requires { ⌜ OneWidth (now a0) (now a1) (now a2) (now b0) (now b1) (now b2) ⌝ }
+    requires { ⌜ EveryOf (InsideRGB d) (now a0) (now a1) (now a2) ⌝ }
+    ensures { λ _. ⌜ ConvertedRows (losslessForward d) (now (a0 .entry)) (now (a1 .entry)) (now (a2 .entry)) (now (b0 .exit)) (now (b1 .exit)) (now (b2 .exit)) ⌝ }
+{
+    for i in 0..a0.len() {
+        let p = pixel_in(a0, a1, a2, i);
+        let q = ycgco::lossless_forward(d, p);
+        put(b0, b1, b2, i, q);
+    }
+}
+
+// The lossless formulas, back.
+pub fn lossless_reverse(
+    d: Depths,
+    a0: &[u16],
+    a1: &[u16],
+    a2: &[u16],
+    b0: &mut [u16],
+    b1: &mut [u16],
+    b2: &mut [u16],
+)
+    requires { ⌜ LosslessDepths d ⌝ }
+    requires { ⌜ OneWidth (now a0) (now a1) (now a2) (now b0) (now b1) (now b2) ⌝ }
+    ensures { λ _. ⌜ ConvertedRows (losslessReverse d) (now (a0 .entry)) (now (a1 .entry)) (now (a2 .entry)) (now (b0 .exit)) (now (b1 .exit)) (now (b2 .exit)) ⌝ }
+{
+    for i in 0..a0.len() {
+        let p = pixel_in(a0, a1, a2, i);
+        let q = ycgco::lossless_reverse(d, p);
+        put(b0, b1, b2, i, q);
+    }
+}

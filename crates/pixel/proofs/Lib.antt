@@ -1,4 +1,0 @@
--- Laws of pixels.
-pub mod Facts
-pub mod ReadyLaws
-pub mod PixelTheorems

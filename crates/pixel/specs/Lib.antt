@@ -1,4 +1,0 @@
--- One pixel, both ways.
-pub mod Pixel
-pub mod Ready
-pub mod Source

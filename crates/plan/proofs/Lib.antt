@@ -1,0 +1,3 @@
+-- Laws of plans, and of the conversions that they are for.
+pub mod PlanLaws
+pub mod ConversionTheorems
