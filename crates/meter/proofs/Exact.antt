@@ -12,7 +12,7 @@ use lib.Ieee.Fits.{up-pos, down-pos}
 use lib.Ieee.Back.{round-whole}
 use lib.Ieee.Scale.{round-same}
 use Rattle.rounding.proofs.Difference.{Holds, subtracted}
-use Rattle.levels.specs.declared.Scale.{Scale}
+use Rattle.scale.specs.declared.Scale.{Scale}
 use Rattle.meter.specs.Level.{floatQuotient, IsExactly, nearestTo, IsNumber, Measurable}
 
 -- Whole numbers of up to 24 bits.

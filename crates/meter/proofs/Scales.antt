@@ -8,7 +8,7 @@ use Rattle.sample.specs.Depth.{Depth, mostDepth}
 use Rattle.sample.specs.declared.LumaDepth.{LumaDepth}
 use Rattle.sample.specs.declared.ChromaDepth.{ChromaDepth}
 use Rattle.sample.proofs.DepthLaws.{powers}
-use Rattle.levels.specs.Paper.{lumaScale, chromaScale}
+use Rattle.scale.specs.Scale.{lumaScale, chromaScale}
 use Rattle.meter.specs.Level.{scaleOf, levelOf, nearestTo, IsNumber, Measurable}
 use Rattle.meter.specs.declared.SampleKind.{SampleKind}
 use Rattle.meter.specs.declared.SampleKind.the-variants.{Y, Cb, Cr}

@@ -8,9 +8,9 @@ use lib.Ieee.Exact.{HasValue}
 use Rattle.sample.specs.declared.LumaDepth.{LumaDepth}
 use Rattle.sample.specs.declared.ChromaDepth.{ChromaDepth}
 use Rattle.sample.specs.declared.Pixel.{Pixel}
-use Rattle.levels.specs.Paper.{lumaScale, chromaScale}
-use Rattle.levels.specs.declared.Scale.{Scale}
-use Rattle.meter.specs.declared.Levels.{Levels}
+use Rattle.scale.specs.Scale.{lumaScale, chromaScale}
+use Rattle.scale.specs.declared.Scale.{Scale}
+use Rattle.meter.specs.declared.PixelLevels.{PixelLevels}
 use Rattle.meter.specs.declared.SampleKind.{SampleKind}
 use Rattle.meter.specs.declared.SampleKind.the-variants.{Y, Cb, Cr}
 
@@ -35,7 +35,7 @@ unfoldable pub levelOf : SampleKind → Bool → LumaDepth → ChromaDepth → �
 levelOf kind full luma chroma v = floatQuotient v (scaleOf kind full luma chroma)
 
 -- the levels of a pixel, by plane
-unfoldable pub levelsOf : Bool → LumaDepth → ChromaDepth → Pixel → Levels
+unfoldable pub levelsOf : Bool → LumaDepth → ChromaDepth → Pixel → PixelLevels
 levelsOf full luma chroma p =
     record {
       y = levelOf Y full luma chroma (p .p0);
@@ -57,7 +57,7 @@ nearestTo (negsuc m) n = round binary32 true (suc m) n
 abbrev pub IsNumber : Float → Type 0
 IsNumber x = T (not (isNan x))
 
-abbrev pub AreNumbers : Levels → Type 0
+abbrev pub AreNumbers : PixelLevels → Type 0
 AreNumbers l = IsNumber (l .y) × (IsNumber (l .cb) × IsNumber (l .cr))
 
 -- a scale of any depth from 8 to 16

@@ -1,2 +1,2 @@
--- Levels as the meter gives them.
+-- PixelLevels as the meter gives them.
 pub mod Level

@@ -1,14 +1,14 @@
 // The spot meter's levels. A level is the one float quotient of a numerator and a denominator that are both exact as floats.
-use levels::Scale;
 use sample::ChromaDepth;
 use sample::LumaDepth;
 use sample::Pixel;
+use scale::Scale;
 ghost use mathlib.Core.Path.{_≡_};
 ghost use Rattle.sample.specs.Depth.{Depth};
 ghost use Rattle.meter.specs.Level.{floatQuotient, planeNumber, scaleOf, levelOf, levelsOf, Measurable};
 
 // The levels of one pixel, which travel together.
-pub struct Levels {
+pub struct PixelLevels {
     pub y: f32,
     pub cb: f32,
     pub cr: f32,
@@ -50,9 +50,9 @@ fn scale_of(kind: SampleKind, full: bool, luma: LumaDepth, chroma: ChromaDepth) 
     ensures { λ r. ⌜ r ≡ scaleOf kind full luma chroma ⌝ }
 {
     match kind {
-        SampleKind::Y => levels::luma_scale(full, luma),
-        SampleKind::Cb => levels::chroma_scale(full, chroma),
-        SampleKind::Cr => levels::chroma_scale(full, chroma),
+        SampleKind::Y => scale::luma_scale(full, luma),
+        SampleKind::Cb => scale::chroma_scale(full, chroma),
+        SampleKind::Cr => scale::chroma_scale(full, chroma),
     }
 }
 
@@ -67,7 +67,7 @@ pub fn level_of(kind: SampleKind, full: bool, luma: LumaDepth, chroma: ChromaDep
 }
 
 // The three levels of a pixel.
-pub fn levels_of(full: bool, luma: LumaDepth, chroma: ChromaDepth, p: Pixel) -> Levels
+pub fn levels_of(full: bool, luma: LumaDepth, chroma: ChromaDepth, p: Pixel) -> PixelLevels
     requires { ⌜ Depth (luma .0) ⌝ }
     requires { ⌜ Depth (chroma .0) ⌝ }
     ensures { λ r. ⌜ r ≡ levelsOf full luma chroma p ⌝ }
@@ -75,5 +75,5 @@ pub fn levels_of(full: bool, luma: LumaDepth, chroma: ChromaDepth, p: Pixel) -> 
     let y = level_of(SampleKind::Y, full, luma, chroma, p.p0);
     let cb = level_of(SampleKind::Cb, full, luma, chroma, p.p1);
     let cr = level_of(SampleKind::Cr, full, luma, chroma, p.p2);
-    Levels { y, cb, cr }
+    PixelLevels { y, cb, cr }
 }

@@ -1,0 +1,80 @@
+-- A call's rules, by what has been found out so far: those on the setting, then those on sizes, then the one on samples.
+use mathlib.Core.Path.{_≡_, refl, sym, ap, _∙_}
+use mathlib.Core.Bool.{true≢false}
+use mathlib.Core.List.{List, [], _∷_, _++_}
+use Rattle.refusal.specs.Rules.{Rule, first, orElse}
+use Rattle.refusal.specs.declared.Check.{Check}
+use Rattle.refusal.specs.declared.Check.the-variants as check
+use Rattle.refusal.specs.declared.Refusal.{Refusal}
+use Rattle.refusal.proofs.RuleLaws.{first-append}
+use Rattle.setting.specs.Ready.{Ready}
+use Rattle.setting.specs.Rules.{served, settingRules, admitted, settingAdmission}
+use Rattle.setting.specs.declared.Call.{Call}
+use Rattle.setting.specs.declared.Setting.{Setting}
+use Rattle.setting.specs.declared.admission.Admission.{Admission}
+use Rattle.setting.specs.declared.admission.Admission.the-variants as admission
+use Rattle.setting.specs.declared.admission.Served.{Served}
+use Rattle.setting.proofs.ReadyLaws.{ready}
+use Rattle.planes.specs.First.{badRule}
+use Rattle.planes.specs.declared.search.Found.{Found}
+use Rattle.planes.specs.declared.search.Found.the-variants.{Nothing}
+use Rattle.admit.specs.Rules.{callRules, callAdmission}
+
+-- what an admission tells of the check that it was made by
+pub told-served : (c : Check) (x y : Served) → admitted c x ≡ admission.Served y → (c ≡ check.Passed) × (x ≡ y)
+told-served check.Passed x y e = (refl, cc)
+told-served (check.Refused r) x y e = absurd (true≢false cc)
+
+pub told-refused : (c : Check) (x : Served) (r : Refusal) → admitted c x ≡ admission.Refused r → c ≡ check.Refused r
+told-refused check.Passed x r e = absurd (true≢false cc)
+told-refused (check.Refused q) x r e = cc
+
+-- the three parts of a call's rules
+pub in-turn : (call : Call) (s : Setting) (sizes : List Rule) (bad : Found)
+    → first (callRules call s sizes bad) ≡ orElse (first (settingRules call s)) (orElse (first sizes) (first (badRule bad ∷ [])))
+in-turn call s sizes bad =
+    first-append (settingRules call s) (sizes ++ (badRule bad ∷ []))
+    ∙ ap (orElse (first (settingRules call s))) (first-append sizes (badRule bad ∷ []))
+
+-- what the code has found out of the setting
+module _ (call : Call) (s : Setting) where
+  pub refused-setting : (a : Admission) (r : Refusal) → a ≡ settingAdmission call s → a ≡ admission.Refused r → first (settingRules call s) ≡ check.Refused r
+  unfolding settingAdmission
+  refused-setting a r e f = told-refused _ (served s) r (sym e ∙ f)
+
+  pub served-setting : (a : Admission) (x : Served) → a ≡ settingAdmission call s → a ≡ admission.Served x
+      → (first (settingRules call s) ≡ check.Passed) × (served s ≡ x)
+  unfolding settingAdmission
+  served-setting a x e f = told-served _ (served s) x (sym e ∙ f)
+
+  pub served-ready : (a : Admission) (x : Served) → a ≡ settingAdmission call s → a ≡ admission.Served x → Ready x
+  served-ready a x e f = let t = served-setting a x e f in rw (← t .1) (ready call s (t .0))
+
+  module _ (sizes : List Rule) (bad : Found) where
+    -- the answer by what each of the three parts comes to
+    abbrev answer : Check → Check → Admission
+    answer a b = admitted (orElse a (orElse b (first (badRule bad ∷ [])))) (served s)
+
+    by-parts : answer (first (settingRules call s)) (first sizes) ≡ callAdmission call s sizes bad
+    unfolding callAdmission
+    by-parts = ap (λ c. admitted c (served s)) (sym (in-turn call s sizes bad))
+
+    pub by-setting : (r : Refusal) → first (settingRules call s) ≡ check.Refused r → admission.Refused r ≡ callAdmission call s sizes bad
+    by-setting r e = ap (λ a. answer a (first sizes)) (sym e) ∙ by-parts
+
+    pub by-size : (r : Refusal) → first (settingRules call s) ≡ check.Passed → first sizes ≡ check.Refused r → admission.Refused r ≡ callAdmission call s sizes bad
+    by-size r e f = (λ i. answer (sym e i) (sym f i)) ∙ by-parts
+
+    pub by-sample : first (settingRules call s) ≡ check.Passed → first sizes ≡ check.Passed
+        → admitted (first (badRule bad ∷ [])) (served s) ≡ callAdmission call s sizes bad
+    by-sample e f = (λ i. answer (sym e i) (sym f i)) ∙ by-parts
+
+    -- the code's own answer, of the setting as it was checked and of what was found
+    pub past-setting : (a b : Admission) (x : Served) (f : Found) → a ≡ settingAdmission call s → a ≡ admission.Served x → first sizes ≡ check.Passed
+        → f ≡ bad → b ≡ admitted (first (badRule f ∷ [])) x → b ≡ callAdmission call s sizes bad
+    past-setting a b x f e g h q r =
+        let t = served-setting a x e g in
+        r ∙ (λ i. admitted (first (badRule (q i) ∷ [])) (sym (t .1) i)) ∙ by-sample (t .0) h
+
+    pub not-past : (a : Admission) (r : Refusal) → a ≡ settingAdmission call s → a ≡ admission.Refused r → a ≡ callAdmission call s sizes bad
+    not-past a r e f = f ∙ by-setting r (refused-setting a r e f)

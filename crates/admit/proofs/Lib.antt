@@ -1,0 +1,3 @@
+-- Laws of admission.
+pub mod AdmitLaws
+pub mod Accepted

@@ -1,0 +1,2 @@
+-- The rules of each kind of call.
+pub mod Rules

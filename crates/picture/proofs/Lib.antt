@@ -1,3 +1,0 @@
--- Laws of a picture's verdict.
-pub mod VerdictLaws
-pub mod Accepted
