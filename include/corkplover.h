@@ -205,7 +205,7 @@ typedef struct cork_levels {
 /* ---- The library's own functions: use the cork_ functions below ----
  *
  * A setting is one number, as cork_word_ makes it, and a picture plane is a pointer and a length. The library's compiler knows
- * nothing of these lines: tools/test-clients compares them with the library's source and calls every one.
+ * nothing of these lines: tests/clients/run compares them with the library's source and calls every one.
  */
 #define CORK_SOURCE_PARAMETERS_                                                                                     \
     const uint16_t *source0, size_t source_length0, const uint16_t *source1, size_t source_length1, const uint16_t *source2, \

@@ -112,7 +112,7 @@ def _export(name, result, parameters):
     return function
 
 
-# The library's compiler knows nothing of these lines; tools/test-clients compares them with its source and calls each.
+# The library's compiler knows nothing of these lines; tests/clients/run compares them with its source and calls each.
 _labels = {kind: _export(kind + "_label", _BYTE, [_BYTE]) for kind in ("primaries", "transfer", "matrix")}
 _exports = {
     name: _export(name, ctypes.c_uint64, [_SETTING] + more)

@@ -74,7 +74,7 @@ pub fn refusal_text(number: u8) -> &'static str {
     TEXTS.get(usize::from(number)).copied().unwrap_or("not a refusal number")
 }
 
-// The library's compiler knows nothing of these lines; tools/test-clients compares them with its source and calls each.
+// The library's compiler knows nothing of these lines; tests/clients/run compares them with its source and calls each.
 #[link(name = "corkplover", kind = "static")]
 extern "C" {
     fn corkplover_primaries_label(code: u8) -> u8;
