@@ -204,12 +204,9 @@ typedef struct cork_levels {
 
 /* ---- The library's own functions: use the cork_ functions below ----
  *
- * A picture plane is a pointer and a length. The library's compiler knows nothing of these lines: tools/test-clients compares them
- * with the library's source and calls every one.
+ * A setting is one number, as cork_word_ makes it, and a picture plane is a pointer and a length. The library's compiler knows
+ * nothing of these lines: tests/clients/run compares them with the library's source and calls every one.
  */
-#define CORK_SETTING_PARAMETERS_                                                                                    \
-    uint8_t primaries, uint8_t transfer, uint8_t matrix, uint8_t rgb_depth, uint8_t y_depth, uint8_t c_depth, bool rgb_full, \
-        bool ycc_full
 #define CORK_SOURCE_PARAMETERS_                                                                                     \
     const uint16_t *source0, size_t source_length0, const uint16_t *source1, size_t source_length1, const uint16_t *source2, \
         size_t source_length2
@@ -222,17 +219,17 @@ extern "C" {
 uint8_t corkplover_primaries_label(uint8_t code);
 uint8_t corkplover_transfer_label(uint8_t code);
 uint8_t corkplover_matrix_label(uint8_t code);
-uint64_t corkplover_forward_pixel(CORK_SETTING_PARAMETERS_, uint16_t r, uint16_t g, uint16_t b);
-uint64_t corkplover_reverse_pixel(CORK_SETTING_PARAMETERS_, uint16_t y, uint16_t cb, uint16_t cr);
-uint64_t corkplover_forward_frame(CORK_SETTING_PARAMETERS_, size_t width, size_t height, size_t source_stride,
-                                  size_t output_stride, CORK_SOURCE_PARAMETERS_, CORK_OUTPUT_PARAMETERS_);
-uint64_t corkplover_reverse_frame(CORK_SETTING_PARAMETERS_, size_t width, size_t height, size_t source_stride,
-                                  size_t output_stride, CORK_SOURCE_PARAMETERS_, CORK_OUTPUT_PARAMETERS_);
-uint64_t corkplover_image_check(CORK_SETTING_PARAMETERS_, size_t width, size_t height, size_t stride, CORK_SOURCE_PARAMETERS_);
-uint64_t corkplover_meter_y(CORK_SETTING_PARAMETERS_, uint16_t y, float *level);
-uint64_t corkplover_meter_cb(CORK_SETTING_PARAMETERS_, uint16_t cb, float *level);
-uint64_t corkplover_meter_cr(CORK_SETTING_PARAMETERS_, uint16_t cr, float *level);
-uint64_t corkplover_meter_pixel(CORK_SETTING_PARAMETERS_, uint16_t y, uint16_t cb, uint16_t cr, float *y_level, float *cb_level,
+uint64_t corkplover_forward_pixel(uint64_t setting, uint16_t r, uint16_t g, uint16_t b);
+uint64_t corkplover_reverse_pixel(uint64_t setting, uint16_t y, uint16_t cb, uint16_t cr);
+uint64_t corkplover_forward_frame(uint64_t setting, size_t width, size_t height, size_t source_stride, size_t output_stride,
+                                  CORK_SOURCE_PARAMETERS_, CORK_OUTPUT_PARAMETERS_);
+uint64_t corkplover_reverse_frame(uint64_t setting, size_t width, size_t height, size_t source_stride, size_t output_stride,
+                                  CORK_SOURCE_PARAMETERS_, CORK_OUTPUT_PARAMETERS_);
+uint64_t corkplover_image_check(uint64_t setting, size_t width, size_t height, size_t stride, CORK_SOURCE_PARAMETERS_);
+uint64_t corkplover_meter_y(uint64_t setting, uint16_t y, float *level);
+uint64_t corkplover_meter_cb(uint64_t setting, uint16_t cb, float *level);
+uint64_t corkplover_meter_cr(uint64_t setting, uint16_t cr, float *level);
+uint64_t corkplover_meter_pixel(uint64_t setting, uint16_t y, uint16_t cb, uint16_t cr, float *y_level, float *cb_level,
                                 float *cr_level);
 #ifdef __cplusplus
 }
@@ -241,9 +238,16 @@ uint64_t corkplover_meter_pixel(CORK_SETTING_PARAMETERS_, uint16_t y, uint16_t c
 /* A size_t is passed where the library takes 64 bits. */
 typedef char cork_needs_64_bit_sizes_[sizeof(size_t) == 8 ? 1 : -1];
 
-#define CORK_SETTING_(s) \
-    (s).primaries, (s).transfer, (s).matrix, (s).rgb_depth, (s).y_depth, (s).c_depth, (s).rgb_full, (s).ycc_full
+#define CORK_FROM_BIT_(bit, value) ((uint64_t)(value) << (bit))
 #define CORK_PLANES_(p) (p).plane[0], (p).length[0], (p).plane[1], (p).length[1], (p).plane[2], (p).length[2]
+
+/* A byte for each code and depth, from the lowest byte up, and then a bit for each flag. The library looks at no bit above them. */
+static inline uint64_t cork_word_(cork_setting s)
+{
+    return CORK_FROM_BIT_(0, s.primaries) + CORK_FROM_BIT_(8, s.transfer) + CORK_FROM_BIT_(16, s.matrix) +
+           CORK_FROM_BIT_(24, s.rgb_depth) + CORK_FROM_BIT_(32, s.y_depth) + CORK_FROM_BIT_(40, s.c_depth) +
+           CORK_FROM_BIT_(48, s.rgb_full) + CORK_FROM_BIT_(49, s.ycc_full);
+}
 
 static inline cork_answer cork_answer_(uint64_t packed)
 {
@@ -278,12 +282,12 @@ static inline cork_label cork_matrix_label(uint8_t code)
  */
 static inline cork_answer cork_forward_pixel(cork_setting s, uint16_t r, uint16_t g, uint16_t b)
 {
-    return cork_answer_(corkplover_forward_pixel(CORK_SETTING_(s), r, g, b));
+    return cork_answer_(corkplover_forward_pixel(cork_word_(s), r, g, b));
 }
 
 static inline cork_answer cork_reverse_pixel(cork_setting s, uint16_t y, uint16_t cb, uint16_t cr)
 {
-    return cork_answer_(corkplover_reverse_pixel(CORK_SETTING_(s), y, cb, cr));
+    return cork_answer_(corkplover_reverse_pixel(cork_word_(s), y, cb, cr));
 }
 
 /* ---- Frames ----
@@ -295,13 +299,13 @@ static inline cork_answer cork_reverse_pixel(cork_setting s, uint16_t y, uint16_
  */
 static inline cork_answer cork_forward_frame(cork_setting s, size_t width, size_t height, cork_source source, cork_output output)
 {
-    return cork_answer_(corkplover_forward_frame(CORK_SETTING_(s), width, height, source.stride, output.stride,
+    return cork_answer_(corkplover_forward_frame(cork_word_(s), width, height, source.stride, output.stride,
                                                  CORK_PLANES_(source), CORK_PLANES_(output)));
 }
 
 static inline cork_answer cork_reverse_frame(cork_setting s, size_t width, size_t height, cork_source source, cork_output output)
 {
-    return cork_answer_(corkplover_reverse_frame(CORK_SETTING_(s), width, height, source.stride, output.stride,
+    return cork_answer_(corkplover_reverse_frame(cork_word_(s), width, height, source.stride, output.stride,
                                                  CORK_PLANES_(source), CORK_PLANES_(output)));
 }
 
@@ -313,7 +317,7 @@ static inline cork_answer cork_reverse_frame(cork_setting s, size_t width, size_
  */
 static inline cork_answer cork_image_check(cork_setting s, size_t width, size_t height, cork_source ycc)
 {
-    return cork_answer_(corkplover_image_check(CORK_SETTING_(s), width, height, ycc.stride, CORK_PLANES_(ycc)));
+    return cork_answer_(corkplover_image_check(cork_word_(s), width, height, ycc.stride, CORK_PLANES_(ycc)));
 }
 
 /* ---- Spot meter ----
@@ -325,21 +329,21 @@ static inline cork_answer cork_image_check(cork_setting s, size_t width, size_t 
 static inline cork_reading cork_meter_y(cork_setting s, uint16_t y)
 {
     cork_reading reading;
-    reading.answer = cork_answer_(corkplover_meter_y(CORK_SETTING_(s), y, &reading.level));
+    reading.answer = cork_answer_(corkplover_meter_y(cork_word_(s), y, &reading.level));
     return reading;
 }
 
 static inline cork_reading cork_meter_cb(cork_setting s, uint16_t cb)
 {
     cork_reading reading;
-    reading.answer = cork_answer_(corkplover_meter_cb(CORK_SETTING_(s), cb, &reading.level));
+    reading.answer = cork_answer_(corkplover_meter_cb(cork_word_(s), cb, &reading.level));
     return reading;
 }
 
 static inline cork_reading cork_meter_cr(cork_setting s, uint16_t cr)
 {
     cork_reading reading;
-    reading.answer = cork_answer_(corkplover_meter_cr(CORK_SETTING_(s), cr, &reading.level));
+    reading.answer = cork_answer_(corkplover_meter_cr(cork_word_(s), cr, &reading.level));
     return reading;
 }
 
@@ -347,14 +351,13 @@ static inline cork_levels cork_meter_pixel(cork_setting s, uint16_t y, uint16_t 
 {
     cork_levels levels;
     levels.answer =
-        cork_answer_(corkplover_meter_pixel(CORK_SETTING_(s), y, cb, cr, &levels.y, &levels.cb, &levels.cr));
+        cork_answer_(corkplover_meter_pixel(cork_word_(s), y, cb, cr, &levels.y, &levels.cb, &levels.cr));
     return levels;
 }
 
-#undef CORK_SETTING_PARAMETERS_
 #undef CORK_SOURCE_PARAMETERS_
 #undef CORK_OUTPUT_PARAMETERS_
-#undef CORK_SETTING_
+#undef CORK_FROM_BIT_
 #undef CORK_PLANES_
 
 #endif

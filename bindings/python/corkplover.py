@@ -101,9 +101,8 @@ def _flag(value):
 _library = ctypes.PyDLL(
     os.environ.get("CORKPLOVER_LIBRARY") or os.path.join(os.path.dirname(os.path.abspath(__file__)), "libcorkplover.so")
 )
-_BYTE, _SAMPLE, _SIZE, _FLAG = ctypes.c_uint8, ctypes.c_uint16, ctypes.c_size_t, ctypes.c_bool
+_BYTE, _SAMPLE, _SIZE, _SETTING = ctypes.c_uint8, ctypes.c_uint16, ctypes.c_size_t, ctypes.c_uint64
 _LEVEL = ctypes.POINTER(ctypes.c_float)
-_SETTING = [_BYTE] * 6 + [_FLAG] * 2
 _PLANES = [ctypes.c_void_p, _SIZE] * 3
 
 
@@ -113,10 +112,10 @@ def _export(name, result, parameters):
     return function
 
 
-# The library's compiler knows nothing of these lines; tools/test-clients compares them with its source and calls each.
+# The library's compiler knows nothing of these lines; tests/clients/run compares them with its source and calls each.
 _labels = {kind: _export(kind + "_label", _BYTE, [_BYTE]) for kind in ("primaries", "transfer", "matrix")}
 _exports = {
-    name: _export(name, ctypes.c_uint64, _SETTING + more)
+    name: _export(name, ctypes.c_uint64, [_SETTING] + more)
     for name, more in {
         "forward_pixel": [_SAMPLE] * 3,
         "reverse_pixel": [_SAMPLE] * 3,
@@ -131,11 +130,16 @@ _exports = {
 }
 
 
+def _word(s):
+    """A setting as the library takes it: a byte for each code and depth, from the lowest byte up, and then a bit for each flag."""
+    codes = [_number(v, 8) for v in (s.primaries, s.transfer, s.matrix, s.rgb_depth, s.y_depth, s.c_depth)]
+    flags = _flag(s.rgb_full) + 2 * _flag(s.ycc_full)
+    return int.from_bytes([*codes, flags], "little")
+
+
 def _call(name, s, *more):
     """The packed answer where it is accepted."""
-    s = Setting(*s)
-    codes = [_number(v, 8) for v in (s.primaries, s.transfer, s.matrix, s.rgb_depth, s.y_depth, s.c_depth)]
-    packed = _exports[name](*codes, _flag(s.rgb_full), _flag(s.ycc_full), *more)
+    packed = _exports[name](_word(Setting(*s)), *more)
     if packed & 0xFF:
         raise Refusal(packed)
     return packed

@@ -74,45 +74,42 @@ pub fn refusal_text(number: u8) -> &'static str {
     TEXTS.get(usize::from(number)).copied().unwrap_or("not a refusal number")
 }
 
-// The library's compiler knows nothing of these lines; tools/test-clients compares them with its source and calls each.
-macro_rules! exports {
-    ($($name:ident($($more:ident: $kind:ty),*);)*) => {
-        #[link(name = "corkplover", kind = "static")]
-        extern "C" {
-            fn corkplover_primaries_label(code: u8) -> u8;
-            fn corkplover_transfer_label(code: u8) -> u8;
-            fn corkplover_matrix_label(code: u8) -> u8;
-            $(fn $name(primaries: u8, transfer: u8, matrix: u8, rgb_depth: u8, y_depth: u8, c_depth: u8, rgb_full: bool,
-                ycc_full: bool, $($more: $kind),*) -> u64;)*
-        }
-    };
+// The library's compiler knows nothing of these lines; tests/clients/run compares them with its source and calls each.
+#[link(name = "corkplover", kind = "static")]
+extern "C" {
+    fn corkplover_primaries_label(code: u8) -> u8;
+    fn corkplover_transfer_label(code: u8) -> u8;
+    fn corkplover_matrix_label(code: u8) -> u8;
+    fn corkplover_forward_pixel(setting: u64, r: u16, g: u16, b: u16) -> u64;
+    fn corkplover_reverse_pixel(setting: u64, y: u16, cb: u16, cr: u16) -> u64;
+    fn corkplover_forward_frame(setting: u64, width: usize, height: usize, source_stride: usize, output_stride: usize,
+        r: *const u16, rs: usize, g: *const u16, gs: usize, b: *const u16, bs: usize,
+        y: *mut u16, ys: usize, cb: *mut u16, cbs: usize, cr: *mut u16, crs: usize) -> u64;
+    fn corkplover_reverse_frame(setting: u64, width: usize, height: usize, source_stride: usize, output_stride: usize,
+        y: *const u16, ys: usize, cb: *const u16, cbs: usize, cr: *const u16, crs: usize,
+        r: *mut u16, rs: usize, g: *mut u16, gs: usize, b: *mut u16, bs: usize) -> u64;
+    fn corkplover_image_check(setting: u64, width: usize, height: usize, stride: usize,
+        y: *const u16, ys: usize, cb: *const u16, cbs: usize, cr: *const u16, crs: usize) -> u64;
+    fn corkplover_meter_y(setting: u64, y: u16, level: *mut f32) -> u64;
+    fn corkplover_meter_cb(setting: u64, cb: u16, level: *mut f32) -> u64;
+    fn corkplover_meter_cr(setting: u64, cr: u16, level: *mut f32) -> u64;
+    fn corkplover_meter_pixel(setting: u64, y: u16, cb: u16, cr: u16, y_level: *mut f32, cb_level: *mut f32, cr_level: *mut f32) -> u64;
 }
 
-exports! {
-    corkplover_forward_pixel(r: u16, g: u16, b: u16);
-    corkplover_reverse_pixel(y: u16, cb: u16, cr: u16);
-    corkplover_forward_frame(width: usize, height: usize, source_stride: usize, output_stride: usize, r: *const u16, rs: usize,
-        g: *const u16, gs: usize, b: *const u16, bs: usize, y: *mut u16, ys: usize, cb: *mut u16, cbs: usize, cr: *mut u16, crs: usize);
-    corkplover_reverse_frame(width: usize, height: usize, source_stride: usize, output_stride: usize, y: *const u16, ys: usize,
-        cb: *const u16, cbs: usize, cr: *const u16, crs: usize, r: *mut u16, rs: usize, g: *mut u16, gs: usize, b: *mut u16, bs: usize);
-    corkplover_image_check(width: usize, height: usize, stride: usize, y: *const u16, ys: usize, cb: *const u16, cbs: usize,
-        cr: *const u16, crs: usize);
-    corkplover_meter_y(y: u16, level: *mut f32);
-    corkplover_meter_cb(cb: u16, level: *mut f32);
-    corkplover_meter_cr(cr: u16, level: *mut f32);
-    corkplover_meter_pixel(y: u16, cb: u16, cr: u16, y_level: *mut f32, cb_level: *mut f32, cr_level: *mut f32);
+/// A setting as the library takes it: a byte for each code and depth, from the lowest byte up, and then a bit for each flag.
+fn word(s: &Setting) -> u64 {
+    let flags = u8::from(s.rgb_full) + 2 * u8::from(s.ycc_full);
+    u64::from_le_bytes([s.primaries, s.transfer, s.matrix, s.rgb_depth, s.y_depth, s.c_depth, flags, 0])
 }
 
-/// Calls an export with the setting's eight numbers before the others. The first form hands on planes, each as its pointer and its own
-/// length. Safe, since every pointer is that of a slice or a variable which stays borrowed while the call lasts.
+/// Calls an export with the setting before everything else. The first form hands on planes, each as its pointer and its own length. Safe,
+/// since every pointer is that of a slice or a variable which stays borrowed while the call lasts.
 macro_rules! call {
     ($export:ident, $s:expr, ($($size:expr),*), [$($source:ident),*], [$($output:ident),*]) => {
         call!($export, $s, $($size,)* $($source.as_ptr(), $source.len(),)* $($output.as_mut_ptr(), $output.len(),)*)
     };
     ($export:ident, $s:expr, $($more:expr),* $(,)?) => {
-        unsafe {
-            $export($s.primaries, $s.transfer, $s.matrix, $s.rgb_depth, $s.y_depth, $s.c_depth, $s.rgb_full, $s.ycc_full, $($more),*)
-        }
+        unsafe { $export(word($s), $($more),*) }
     };
 }
 

@@ -10,13 +10,13 @@ import sys
 
 import corkplover
 
-RATTLE = {"u8": "u8", "u16": "u16", "bool": "bool", "usize": "usize", "&[u16]": "*u16 usize", "&mut [u16]": "*mut-u16 usize",
-          "&mut f32": "*f32", "u64": "u64"}
-C = {"uint8_t": "u8", "uint16_t": "u16", "_Bool": "bool", "size_t": "usize", "const uint16_t *": "*u16", "uint16_t *": "*mut-u16",
-     "float *": "*f32", "uint64_t": "u64"}
-RUST = {"u8": "u8", "u16": "u16", "bool": "bool", "usize": "usize", "*const u16": "*u16", "*mut u16": "*mut-u16", "*mut f32": "*f32"}
-PYTHON = {ctypes.c_uint8: "u8", ctypes.c_uint16: "u16", ctypes.c_bool: "bool", ctypes.c_size_t: "usize", ctypes.c_void_p: "pointer",
-          ctypes.POINTER(ctypes.c_float): "*f32"}
+RATTLE = {"u8": "u8", "u16": "u16", "u64": "u64", "usize": "usize", "&[u16]": "*u16 usize", "&mut [u16]": "*mut-u16 usize",
+          "&mut f32": "*f32"}
+C = {"uint8_t": "u8", "uint16_t": "u16", "uint64_t": "u64", "size_t": "usize", "const uint16_t *": "*u16", "uint16_t *": "*mut-u16",
+     "float *": "*f32"}
+RUST = {"u8": "u8", "u16": "u16", "u64": "u64", "usize": "usize", "*const u16": "*u16", "*mut u16": "*mut-u16", "*mut f32": "*f32"}
+# to Python a size and any other number of 64 bits are one type, and so are pointers to numbers that are read and that are written
+PYTHON = {ctypes.c_uint8: "u8", ctypes.c_uint16: "u16", ctypes.c_uint64: "u64", ctypes.c_void_p: "pointer", ctypes.POINTER(ctypes.c_float): "*f32"}
 
 
 def parameters(text, split, table):
@@ -51,23 +51,18 @@ def of_header():
 def of_rust():
     with open("bindings/rust/corkplover.rs") as source:
         text = re.sub(r"\s+", " ", source.read())
-    labels = re.finditer(r"fn (corkplover_\w+_label)\(([^)]*)\) -> (\w+);", text)
-    found = {d[1]: parameters(d[2], after_colon, RUST) + " -> " + d[3] for d in labels}
-    before = re.search(r"fn \$name\((.*?)\$", text)[1]
-    for export in re.finditer(r"(corkplover_\w+)\(([^()]*)\);", re.search(r"exports! \{(.*?)\}", text)[1]):
-        found[export[1]] = parameters(before + export[2], after_colon, RUST) + " -> u64"
-    return found
+    declared = re.finditer(r"fn (corkplover_\w+)\(([^)]*)\) -> (\w+);", text)
+    return {d[1]: parameters(d[2], after_colon, RUST) + " -> " + d[3] for d in declared}
 
 
 def of_python():
-    results = {ctypes.c_uint8: "u8", ctypes.c_uint64: "u64"}
     functions = list(corkplover._labels.values()) + list(corkplover._exports.values())
-    return {f.__name__: " ".join(PYTHON.get(t, "unknown(%s)" % t) for t in f.argtypes) + " -> " + results[f.restype] for f in functions}
+    return {f.__name__: " ".join(PYTHON.get(t, "unknown(%s)" % t) for t in f.argtypes) + " -> " + PYTHON[f.restype] for f in functions}
 
 
 def main():
     source = of_source()
-    untyped = {name: re.sub(r"\*(mut-)?u16", "pointer", types) for name, types in source.items()}
+    untyped = {name: re.sub(r"\*(mut-)?u16", "pointer", types).replace("usize", "u64") for name, types in source.items()}
     wrong = 0
     for place, declared, wanted in (("header", of_header(), source), ("Rust", of_rust(), source), ("Python", of_python(), untyped)):
         for name in sorted(set(declared) | set(wanted)):

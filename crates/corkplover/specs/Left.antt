@@ -3,13 +3,13 @@ use mathlib.Core.Path.{_≡_}
 use mathlib.Core.List.{List}
 use Prim.Native.Nat.{ℕ}
 use lib.Ieee.{Float}
+use lib.ListN.{length}
 use Rattle.sample.specs.declared.Pixel.{Pixel}
 use Rattle.setting.specs.declared.Setting.{Setting}
 use Rattle.meter.specs.declared.SampleKind.{SampleKind}
-use Rattle.planes.specs.declared.size.Side.{Side}
 use Rattle.pixel.specs.declared.Way.{Way}
-use Rattle.picture.specs.Picture.{Picture}
-use Rattle.frame.specs.Frame.{frameAnswer, PlanesLeft}
+use Rattle.frame.specs.Frame.{sourceOf, outputOf, frameAnswer, PlanesLeft}
+use Rattle.frame.specs.declared.Size.{Size}
 use Rattle.corkplover.specs.Answers.{reading, levelsAnswer}
 use Rattle.corkplover.specs.Packing.{packedReading, levelIn, packedLevels, yIn, cbIn, crIn, packedFrame}
 
@@ -21,6 +21,9 @@ abbrev pub LevelsLeft : Setting → Pixel → ℕ → Float → Float → Float 
 LevelsLeft s p x y cb cr =
     (x ≡ packedLevels (levelsAnswer s p)) × ((y ≡ yIn (levelsAnswer s p)) × ((cb ≡ cbIn (levelsAnswer s p)) × (cr ≡ crIn (levelsAnswer s p))))
 
--- a frame's call
-abbrev pub FrameExportLeft : Way → Setting → Picture → Side → ℕ → List ℕ → List ℕ → List ℕ → Type 0
-FrameExportLeft way s a b x p0 p1 p2 = (x ≡ packedFrame (frameAnswer way s a b)) × PlanesLeft way s a b p0 p1 p2
+-- a frame's call, which reads the planes a and is lent the planes b: of what those held, only their lengths count
+abbrev pub FrameExportLeft : Way → Setting → Size → List ℕ → List ℕ → List ℕ → List ℕ → List ℕ → List ℕ → ℕ → List ℕ → List ℕ → List ℕ → Type 0
+FrameExportLeft way s size a0 a1 a2 b0 b1 b2 x p0 p1 p2 =
+    let source = sourceOf size a0 a1 a2 in
+    let output = outputOf size (length b0) (length b1) (length b2) in
+    (x ≡ packedFrame (frameAnswer way s source output)) × PlanesLeft way s source output p0 p1 p2

@@ -1,9 +1,12 @@
--- Answers as one number, for callers in other languages. Bits 0 to 7 are 0 or the refusal's number; a 10 has its plane from bit 8, its
--- row from bit 16 and its column from bit 32; an accepted pixel has its samples from bits 16, 32 and 48. All other bits are 0.
-use mathlib.Core.Bool.{Bool, false}
+-- Answers and settings as one number each, for callers in other languages. In an answer bits 0 to 7 are 0 or the refusal's number; a 10
+-- has its plane from bit 8, its row from bit 16 and its column from bit 32; an accepted pixel has its samples from bits 16, 32 and 48. All
+-- other bits are 0.
+use mathlib.Core.Bool.{Bool, true, false}
 use Prim.Native.Nat.{ℕ, _+_, _*_, _/_, _%_}
+use lib.Dec.{eqb}
 use lib.IntN.{pos}
 use lib.Ieee.{Float, fin}
+use Rattle.sample.specs.declared.Pixel.{Pixel}
 use Rattle.meter.specs.declared.Levels.{Levels}
 use Rattle.refusal.specs.declared.Refusal.{Refusal}
 use Rattle.setting.specs.declared.Setting.{Setting}
@@ -75,13 +78,35 @@ cbIn a = levelsIn a .cb
 abbrev pub crIn : LevelsAnswer → Float
 crIn a = levelsIn a .cr
 
--- a setting of eight parameters
-abbrev pub setting : ℕ → ℕ → ℕ → ℕ → ℕ → ℕ → Bool → Bool → Setting
-setting p t m r y c rf yf =
-    record
-    { primaries = p; transfer = t; matrix = m; «rgb_depth» = r; «y_depth» = y; «c_depth» = c; «rgb_full» = rf; «ycc_full» = yf }
+-- A setting in one word: a byte each for primaries, transfer, matrix and the depths of RGB, Y and C, from the lowest byte up, then a bit each
+-- for full RGB and full YCbCr. What stands above them, from bit 50, is not looked at.
+unfoldable pub settingIn : ℕ → Setting
+settingIn word =
+    record {
+      primaries = word % 256;
+      transfer = word / 256 % 256;
+      matrix = word / 65536 % 256;
+      «rgb_depth» = word / 16777216 % 256;
+      «y_depth» = word / 4294967296 % 256;
+      «c_depth» = word / 1099511627776 % 256;
+      «rgb_full» = eqb (word / 281474976710656 % 2) 1;
+      «ycc_full» = eqb (word / 562949953421312 % 2) 1;
+    }
 
--- sizes of four parameters
+-- and a setting put into one, with anything above it
+abbrev pub bit : Bool → ℕ
+bit true = 1
+bit false = 0
+
+abbrev pub settingWord : Setting → ℕ → ℕ
+settingWord s above =
+    s .primaries + s .transfer * 256 + s .matrix * 65536 + s .«rgb_depth» * 16777216 + s .«y_depth» * 4294967296 + s .«c_depth» * 1099511627776
+    + bit (s .«rgb_full») * 281474976710656 + bit (s .«ycc_full») * 562949953421312 + above * 1125899906842624
+
+-- a pixel of three parameters, and sizes of four
+abbrev pub pixelFrom : ℕ → ℕ → ℕ → Pixel
+pixelFrom a b c = record { p0 = a; p1 = b; p2 = c }
+
 abbrev pub sizes : ℕ → ℕ → ℕ → ℕ → Size
 sizes w h source output = record { width = w; height = h; «source_stride» = source; «output_stride» = output }
 

@@ -1,19 +1,19 @@
-// The calls for C and for every language that can call C: plain numbers and slices. A setting is eight parameters in one order, and an
-// answer is one number (specs/Packing.antt).
+// The calls for C and for every language that can call C: plain numbers and slices. A setting is one number, and so is an answer
+// (specs/Packing.antt).
 ghost use mathlib.Core.Path.{_≡_};
 ghost use Rattle.setting.specs.Label.{primariesLabel, transferLabel, matrixLabel, labelNumber};
 ghost use Rattle.pixel.specs.declared.Way.the-variants.{Forward, Reverse};
 ghost use Rattle.meter.specs.declared.SampleKind.the-variants.{Y, Cb, Cr};
 ghost use Rattle.corkplover.specs.Answers.{pixelAnswer};
-ghost use Rattle.corkplover.specs.Packing.{setting, packedPixel};
+ghost use Rattle.corkplover.specs.Packing.{settingIn, pixelFrom, packedPixel};
 ghost use Rattle.corkplover.specs.Left.{ReadingLeft, LevelsLeft};
 use crate::labels;
 use crate::meters;
 use crate::packing;
-use crate::packing::setting_of;
+use crate::packing::pixel_from;
+use crate::packing::setting_in;
 use crate::pixels;
 use meter::SampleKind;
-use sample::Pixel;
 
 #[no_mangle]
 pub extern "C" fn corkplover_primaries_label(code: u8) -> u8
@@ -37,173 +37,52 @@ pub extern "C" fn corkplover_matrix_label(code: u8) -> u8
 }
 
 #[no_mangle]
-pub extern "C" fn corkplover_forward_pixel(
-    primaries: u8,
-    transfer: u8,
-    matrix: u8,
-    rgbdepth: u8,
-    ydepth: u8,
-    cdepth: u8,
-    rgbfull: bool,
-    yccfull: bool,
-    r: u16,
-    g: u16,
-    b: u16,
-) -> u64
-    ensures { λ x. ⌜ x ≡ packedPixel (pixelAnswer Forward (setting primaries transfer matrix rgbdepth ydepth cdepth rgbfull yccfull) (record { p0 = r; p1 = g; p2 = b })) ⌝ }
+pub extern "C" fn corkplover_forward_pixel(setting: u64, r: u16, g: u16, b: u16) -> u64
+    ensures { λ x. ⌜ x ≡ packedPixel (pixelAnswer Forward (settingIn setting) (pixelFrom r g b)) ⌝ }
 {
-    let s = setting_of(
-        primaries,
-        transfer,
-        matrix,
-        rgbdepth,
-        ydepth,
-        cdepth,
-        rgbfull,
-        yccfull,
-    );
-    let p = Pixel {
-        p0: r,
-        p1: g,
-        p2: b,
-    };
-    packing::pack_pixel(pixels::forward_pixel(s, p))
+    packing::pack_pixel(pixels::forward_pixel(setting_in(setting), pixel_from(r, g, b)))
 }
 
 #[no_mangle]
-pub extern "C" fn corkplover_reverse_pixel(
-    primaries: u8,
-    transfer: u8,
-    matrix: u8,
-    rgbdepth: u8,
-    ydepth: u8,
-    cdepth: u8,
-    rgbfull: bool,
-    yccfull: bool,
-    y: u16,
-    cb: u16,
-    cr: u16,
-) -> u64
-    ensures { λ x. ⌜ x ≡ packedPixel (pixelAnswer Reverse (setting primaries transfer matrix rgbdepth ydepth cdepth rgbfull yccfull) (record { p0 = y; p1 = cb; p2 = cr })) ⌝ }
+pub extern "C" fn corkplover_reverse_pixel(setting: u64, y: u16, cb: u16, cr: u16) -> u64
+    ensures { λ x. ⌜ x ≡ packedPixel (pixelAnswer Reverse (settingIn setting) (pixelFrom y cb cr)) ⌝ }
 {
-    let s = setting_of(
-        primaries,
-        transfer,
-        matrix,
-        rgbdepth,
-        ydepth,
-        cdepth,
-        rgbfull,
-        yccfull,
-    );
-    let p = Pixel {
-        p0: y,
-        p1: cb,
-        p2: cr,
-    };
-    packing::pack_pixel(pixels::reverse_pixel(s, p))
+    packing::pack_pixel(pixels::reverse_pixel(setting_in(setting), pixel_from(y, cb, cr)))
 }
 
-#[no_mangle]
-pub extern "C" fn corkplover_meter_y(
-    primaries: u8,
-    transfer: u8,
-    matrix: u8,
-    rgbdepth: u8,
-    ydepth: u8,
-    cdepth: u8,
-    rgbfull: bool,
-    yccfull: bool,
-    v: u16,
-    level: &mut f32,
-) -> u64
-    ensures { λ x. ⌜ ReadingLeft Y (setting primaries transfer matrix rgbdepth ydepth cdepth rgbfull yccfull) v x (now (level .exit)) ⌝ }
+// One sample's level, which goes where the caller said.
+fn leave_reading(kind: SampleKind, setting: u64, v: u16, level: &mut f32) -> u64
+    ensures { λ x. ⌜ ReadingLeft kind (settingIn setting) v x (now (level .exit)) ⌝ }
 {
-    let s = setting_of(
-        primaries,
-        transfer,
-        matrix,
-        rgbdepth,
-        ydepth,
-        cdepth,
-        rgbfull,
-        yccfull,
-    );
-    let answer = meters::meter_sample(SampleKind::Y, s, v);
+    let answer = meters::meter_sample(kind, setting_in(setting), v);
     *level = packing::level_in(answer);
     packing::pack_reading(answer)
 }
 
 #[no_mangle]
-pub extern "C" fn corkplover_meter_cb(
-    primaries: u8,
-    transfer: u8,
-    matrix: u8,
-    rgbdepth: u8,
-    ydepth: u8,
-    cdepth: u8,
-    rgbfull: bool,
-    yccfull: bool,
-    v: u16,
-    level: &mut f32,
-) -> u64
-    ensures { λ x. ⌜ ReadingLeft Cb (setting primaries transfer matrix rgbdepth ydepth cdepth rgbfull yccfull) v x (now (level .exit)) ⌝ }
+pub extern "C" fn corkplover_meter_y(setting: u64, v: u16, level: &mut f32) -> u64
+    ensures { λ x. ⌜ ReadingLeft Y (settingIn setting) v x (now (level .exit)) ⌝ }
 {
-    let s = setting_of(
-        primaries,
-        transfer,
-        matrix,
-        rgbdepth,
-        ydepth,
-        cdepth,
-        rgbfull,
-        yccfull,
-    );
-    let answer = meters::meter_sample(SampleKind::Cb, s, v);
-    *level = packing::level_in(answer);
-    packing::pack_reading(answer)
+    leave_reading(SampleKind::Y, setting, v, level)
 }
 
 #[no_mangle]
-pub extern "C" fn corkplover_meter_cr(
-    primaries: u8,
-    transfer: u8,
-    matrix: u8,
-    rgbdepth: u8,
-    ydepth: u8,
-    cdepth: u8,
-    rgbfull: bool,
-    yccfull: bool,
-    v: u16,
-    level: &mut f32,
-) -> u64
-    ensures { λ x. ⌜ ReadingLeft Cr (setting primaries transfer matrix rgbdepth ydepth cdepth rgbfull yccfull) v x (now (level .exit)) ⌝ }
+pub extern "C" fn corkplover_meter_cb(setting: u64, v: u16, level: &mut f32) -> u64
+    ensures { λ x. ⌜ ReadingLeft Cb (settingIn setting) v x (now (level .exit)) ⌝ }
 {
-    let s = setting_of(
-        primaries,
-        transfer,
-        matrix,
-        rgbdepth,
-        ydepth,
-        cdepth,
-        rgbfull,
-        yccfull,
-    );
-    let answer = meters::meter_sample(SampleKind::Cr, s, v);
-    *level = packing::level_in(answer);
-    packing::pack_reading(answer)
+    leave_reading(SampleKind::Cb, setting, v, level)
+}
+
+#[no_mangle]
+pub extern "C" fn corkplover_meter_cr(setting: u64, v: u16, level: &mut f32) -> u64
+    ensures { λ x. ⌜ ReadingLeft Cr (settingIn setting) v x (now (level .exit)) ⌝ }
+{
+    leave_reading(SampleKind::Cr, setting, v, level)
 }
 
 #[no_mangle]
 pub extern "C" fn corkplover_meter_pixel(
-    primaries: u8,
-    transfer: u8,
-    matrix: u8,
-    rgbdepth: u8,
-    ydepth: u8,
-    cdepth: u8,
-    rgbfull: bool,
-    yccfull: bool,
+    setting: u64,
     y: u16,
     cb: u16,
     cr: u16,
@@ -211,24 +90,9 @@ pub extern "C" fn corkplover_meter_pixel(
     cblevel: &mut f32,
     crlevel: &mut f32,
 ) -> u64
-    ensures { λ x. ⌜ LevelsLeft (setting primaries transfer matrix rgbdepth ydepth cdepth rgbfull yccfull) (record { p0 = y; p1 = cb; p2 = cr }) x (now (ylevel .exit)) (now (cblevel .exit)) (now (crlevel .exit)) ⌝ }
+    ensures { λ x. ⌜ LevelsLeft (settingIn setting) (pixelFrom y cb cr) x (now (ylevel .exit)) (now (cblevel .exit)) (now (crlevel .exit)) ⌝ }
 {
-    let s = setting_of(
-        primaries,
-        transfer,
-        matrix,
-        rgbdepth,
-        ydepth,
-        cdepth,
-        rgbfull,
-        yccfull,
-    );
-    let p = Pixel {
-        p0: y,
-        p1: cb,
-        p2: cr,
-    };
-    let answer = meters::meter_pixel(s, p);
+    let answer = meters::meter_pixel(setting_in(setting), pixel_from(y, cb, cr));
     let levels = packing::levels_in(answer);
     *ylevel = levels.y;
     *cblevel = levels.cb;

@@ -1,27 +1,43 @@
 // The calls on whole frames for C and for every language that can call C. A slice is a pointer and then a length.
 ghost use mathlib.Core.Path.{_≡_};
-ghost use lib.ListN.{length};
 ghost use Rattle.pixel.specs.declared.Way.the-variants.{Forward, Reverse};
-ghost use Rattle.frame.specs.Frame.{sourceOf, outputOf};
 ghost use Rattle.image_check.specs.Image.{imageAnswer};
 ghost use Rattle.picture.specs.Picture.{picture};
-ghost use Rattle.corkplover.specs.Packing.{setting, sizes, packedImage};
+ghost use Rattle.corkplover.specs.Packing.{settingIn, sizes, packedImage};
 ghost use Rattle.corkplover.specs.Left.{FrameExportLeft};
 use crate::frames;
 use crate::packing;
-use crate::packing::setting_of;
+use crate::packing::setting_in;
 use crate::packing::size_of;
+use pixel::Way;
+
+// Planes a to planes b, by the way that is asked for.
+fn leave_frame(
+    way: Way,
+    setting: u64,
+    width: usize,
+    height: usize,
+    sourcestride: usize,
+    outputstride: usize,
+    a0: &[u16],
+    a1: &[u16],
+    a2: &[u16],
+    b0: &mut [u16],
+    b1: &mut [u16],
+    b2: &mut [u16],
+) -> u64
+    ensures { λ x. ⌜ FrameExportLeft way (settingIn setting) (sizes width height sourcestride outputstride)
+        (now (a0 .entry)) (now (a1 .entry)) (now (a2 .entry)) (now (b0 .entry)) (now (b1 .entry)) (now (b2 .entry))
+        x (now (b0 .exit)) (now (b1 .exit)) (now (b2 .exit)) ⌝ }
+{
+    let s = setting_in(setting);
+    let size = size_of(width, height, sourcestride, outputstride);
+    packing::pack_frame(frame::convert_frame(way, s, size, a0, a1, a2, b0, b1, b2))
+}
 
 #[no_mangle]
 pub extern "C" fn corkplover_forward_frame(
-    primaries: u8,
-    transfer: u8,
-    matrix: u8,
-    rgbdepth: u8,
-    ydepth: u8,
-    cdepth: u8,
-    rgbfull: bool,
-    yccfull: bool,
+    setting: u64,
     width: usize,
     height: usize,
     sourcestride: usize,
@@ -33,33 +49,29 @@ pub extern "C" fn corkplover_forward_frame(
     cb: &mut [u16],
     cr: &mut [u16],
 ) -> u64
-    ensures { λ x. ⌜ FrameExportLeft Forward (setting primaries transfer matrix rgbdepth ydepth cdepth rgbfull yccfull) (sourceOf (sizes width height sourcestride outputstride) (now (r .entry)) (now (g .entry)) (now (b .entry))) (outputOf (sizes width height sourcestride outputstride) (length (now (y .entry))) (length (now (cb .entry))) (length (now (cr .entry)))) x (now (y .exit)) (now (cb .exit)) (now (cr .exit)) ⌝ }
+    ensures { λ x. ⌜ FrameExportLeft Forward (settingIn setting) (sizes width height sourcestride outputstride)
+        (now (r .entry)) (now (g .entry)) (now (b .entry)) (now (y .entry)) (now (cb .entry)) (now (cr .entry))
+        x (now (y .exit)) (now (cb .exit)) (now (cr .exit)) ⌝ }
 {
-    let s = setting_of(
-        primaries,
-        transfer,
-        matrix,
-        rgbdepth,
-        ydepth,
-        cdepth,
-        rgbfull,
-        yccfull,
-    );
-    let size = size_of(width, height, sourcestride, outputstride);
-    let answer = frames::forward_frame(s, size, r, g, b, y, cb, cr);
-    packing::pack_frame(answer)
+    leave_frame(
+        Way::Forward,
+        setting,
+        width,
+        height,
+        sourcestride,
+        outputstride,
+        r,
+        g,
+        b,
+        y,
+        cb,
+        cr,
+    )
 }
 
 #[no_mangle]
 pub extern "C" fn corkplover_reverse_frame(
-    primaries: u8,
-    transfer: u8,
-    matrix: u8,
-    rgbdepth: u8,
-    ydepth: u8,
-    cdepth: u8,
-    rgbfull: bool,
-    yccfull: bool,
+    setting: u64,
     width: usize,
     height: usize,
     sourcestride: usize,
@@ -71,33 +83,29 @@ pub extern "C" fn corkplover_reverse_frame(
     g: &mut [u16],
     b: &mut [u16],
 ) -> u64
-    ensures { λ x. ⌜ FrameExportLeft Reverse (setting primaries transfer matrix rgbdepth ydepth cdepth rgbfull yccfull) (sourceOf (sizes width height sourcestride outputstride) (now (y .entry)) (now (cb .entry)) (now (cr .entry))) (outputOf (sizes width height sourcestride outputstride) (length (now (r .entry))) (length (now (g .entry))) (length (now (b .entry)))) x (now (r .exit)) (now (g .exit)) (now (b .exit)) ⌝ }
+    ensures { λ x. ⌜ FrameExportLeft Reverse (settingIn setting) (sizes width height sourcestride outputstride)
+        (now (y .entry)) (now (cb .entry)) (now (cr .entry)) (now (r .entry)) (now (g .entry)) (now (b .entry))
+        x (now (r .exit)) (now (g .exit)) (now (b .exit)) ⌝ }
 {
-    let s = setting_of(
-        primaries,
-        transfer,
-        matrix,
-        rgbdepth,
-        ydepth,
-        cdepth,
-        rgbfull,
-        yccfull,
-    );
-    let size = size_of(width, height, sourcestride, outputstride);
-    let answer = frames::reverse_frame(s, size, y, cb, cr, r, g, b);
-    packing::pack_frame(answer)
+    leave_frame(
+        Way::Reverse,
+        setting,
+        width,
+        height,
+        sourcestride,
+        outputstride,
+        y,
+        cb,
+        cr,
+        r,
+        g,
+        b,
+    )
 }
 
 #[no_mangle]
 pub extern "C" fn corkplover_image_check(
-    primaries: u8,
-    transfer: u8,
-    matrix: u8,
-    rgbdepth: u8,
-    ydepth: u8,
-    cdepth: u8,
-    rgbfull: bool,
-    yccfull: bool,
+    setting: u64,
     width: usize,
     height: usize,
     stride: usize,
@@ -105,17 +113,8 @@ pub extern "C" fn corkplover_image_check(
     cb: &[u16],
     cr: &[u16],
 ) -> u64
-    ensures { λ x. ⌜ x ≡ packedImage (imageAnswer (setting primaries transfer matrix rgbdepth ydepth cdepth rgbfull yccfull) (picture width height stride (now (y .entry)) (now (cb .entry)) (now (cr .entry)))) ⌝ }
+    ensures { λ x. ⌜ x ≡ packedImage (imageAnswer (settingIn setting)
+        (picture width height stride (now (y .entry)) (now (cb .entry)) (now (cr .entry)))) ⌝ }
 {
-    let s = setting_of(
-        primaries,
-        transfer,
-        matrix,
-        rgbdepth,
-        ydepth,
-        cdepth,
-        rgbfull,
-        yccfull,
-    );
-    packing::pack_image(frames::image_check(s, width, height, stride, y, cb, cr))
+    packing::pack_image(frames::image_check(setting_in(setting), width, height, stride, y, cb, cr))
 }

@@ -1,7 +1,7 @@
-// Answers as one number, for callers in other languages.
+// Settings and answers as one number each, for callers in other languages.
 ghost use mathlib.Core.Path.{_≡_};
 ghost use Rattle.setting.specs.Label.{labelNumber};
-ghost use Rattle.corkplover.specs.Packing.{packed, packedRefusal, packedPixel, packedReading, packedLevels, levelIn, levelsIn, packedFrame, packedImage, setting, sizes};
+ghost use Rattle.corkplover.specs.Packing.{packed, packedRefusal, packedPixel, packedReading, packedLevels, levelIn, levelsIn, packedFrame, packedImage, settingIn, pixelFrom, sizes};
 use crate::meters::LevelsAnswer;
 use crate::meters::Reading;
 use crate::pixels::PixelAnswer;
@@ -10,6 +10,7 @@ use frame::Size;
 use image_check::ImageAnswer;
 use meter::Levels;
 use refusal::Refusal;
+use sample::Pixel;
 use setting::Setting;
 use setting::label::Label;
 
@@ -81,28 +82,27 @@ pub fn levels_in(answer: LevelsAnswer) -> Levels
     }
 }
 
-// A setting of eight parameters.
-pub fn setting_of(
-    primaries: u8,
-    transfer: u8,
-    matrix: u8,
-    rgbdepth: u8,
-    ydepth: u8,
-    cdepth: u8,
-    rgbfull: bool,
-    yccfull: bool,
-) -> Setting
-    ensures { λ r. ⌜ r ≡ setting primaries transfer matrix rgbdepth ydepth cdepth rgbfull yccfull ⌝ }
+// The setting that a word holds. Bits 50 to 63 are not looked at.
+pub fn setting_in(word: u64) -> Setting
+    ensures { λ r. ⌜ r ≡ settingIn word ⌝ }
 {
+    let primaries = (word % 256) as u8;
+    let transfer = (word / 256 % 256) as u8;
+    let matrix = (word / 65536 % 256) as u8;
+    let rgb_depth = (word / 16777216 % 256) as u8;
+    let y_depth = (word / 4294967296 % 256) as u8;
+    let c_depth = (word / 1099511627776 % 256) as u8;
+    let rgb_full = word / 281474976710656 % 2 == 1;
+    let ycc_full = word / 562949953421312 % 2 == 1;
     Setting {
         primaries,
         transfer,
         matrix,
-        rgb_depth: rgbdepth,
-        y_depth: ydepth,
-        c_depth: cdepth,
-        rgb_full: rgbfull,
-        ycc_full: yccfull,
+        rgb_depth,
+        y_depth,
+        c_depth,
+        rgb_full,
+        ycc_full,
     }
 }
 
@@ -126,7 +126,13 @@ pub fn pack_image(answer: ImageAnswer) -> u64
     }
 }
 
-// Sizes of four parameters.
+// A pixel of three parameters, and sizes of four.
+pub fn pixel_from(p0: u16, p1: u16, p2: u16) -> Pixel
+    ensures { λ r. ⌜ r ≡ pixelFrom p0 p1 p2 ⌝ }
+{
+    Pixel { p0, p1, p2 }
+}
+
 pub fn size_of(width: usize, height: usize, sourcestride: usize, outputstride: usize) -> Size
     ensures { λ r. ⌜ r ≡ sizes width height sourcestride outputstride ⌝ }
 {

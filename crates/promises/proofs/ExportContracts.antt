@@ -55,8 +55,8 @@ pub corkplover-meter-y-asks-nothing : (κs : _) (a : _) → corkplover-meter-y.P
 corkplover-meter-y-asks-nothing κs a = tt
 
 pub corkplover-meter-y-once : (κs : _) (a : _) (r r' : _) (s s' : _) → corkplover-meter-y.Post κs a r s → corkplover-meter-y.Post κs a r' s'
-    → let t = s .1 .1 .1 .1 .1 .1 .1 .1 .1 in
-    let t' = s' .1 .1 .1 .1 .1 .1 .1 .1 .1 in
+    → let t = s .1 .1 in
+    let t' = s' .1 .1 in
     (r ≡ r') × (now (t .0) ≡ now (t' .0))
 corkplover-meter-y-once κs a r r' s s' = once-both
 
@@ -64,8 +64,8 @@ pub corkplover-meter-cb-asks-nothing : (κs : _) (a : _) → corkplover-meter-cb
 corkplover-meter-cb-asks-nothing κs a = tt
 
 pub corkplover-meter-cb-once : (κs : _) (a : _) (r r' : _) (s s' : _) → corkplover-meter-cb.Post κs a r s → corkplover-meter-cb.Post κs a r' s'
-    → let t = s .1 .1 .1 .1 .1 .1 .1 .1 .1 in
-    let t' = s' .1 .1 .1 .1 .1 .1 .1 .1 .1 in
+    → let t = s .1 .1 in
+    let t' = s' .1 .1 in
     (r ≡ r') × (now (t .0) ≡ now (t' .0))
 corkplover-meter-cb-once κs a r r' s s' = once-both
 
@@ -73,8 +73,8 @@ pub corkplover-meter-cr-asks-nothing : (κs : _) (a : _) → corkplover-meter-cr
 corkplover-meter-cr-asks-nothing κs a = tt
 
 pub corkplover-meter-cr-once : (κs : _) (a : _) (r r' : _) (s s' : _) → corkplover-meter-cr.Post κs a r s → corkplover-meter-cr.Post κs a r' s'
-    → let t = s .1 .1 .1 .1 .1 .1 .1 .1 .1 in
-    let t' = s' .1 .1 .1 .1 .1 .1 .1 .1 .1 in
+    → let t = s .1 .1 in
+    let t' = s' .1 .1 in
     (r ≡ r') × (now (t .0) ≡ now (t' .0))
 corkplover-meter-cr-once κs a r r' s s' = once-both
 
@@ -82,8 +82,8 @@ pub corkplover-meter-pixel-asks-nothing : (κs : _) (a : _) → corkplover-meter
 corkplover-meter-pixel-asks-nothing κs a = tt
 
 pub corkplover-meter-pixel-once : (κs : _) (a : _) (r r' : _) (s s' : _) → corkplover-meter-pixel.Post κs a r s → corkplover-meter-pixel.Post κs a r' s'
-    → let t = s .1 .1 .1 .1 .1 .1 .1 .1 .1 .1 .1 in
-    let t' = s' .1 .1 .1 .1 .1 .1 .1 .1 .1 .1 .1 in
+    → let t = s .1 .1 .1 .1 in
+    let t' = s' .1 .1 .1 .1 in
     (r ≡ r') × ((now (t .0) ≡ now (t' .0)) × ((now (t .1 .0) ≡ now (t' .1 .0)) × (now (t .1 .1 .0) ≡ now (t' .1 .1 .0))))
 corkplover-meter-pixel-once κs a r r' s s' = once-all
 
@@ -91,8 +91,8 @@ pub corkplover-forward-frame-asks-nothing : (κs : _) (a : _) → corkplover-for
 corkplover-forward-frame-asks-nothing κs a = tt
 
 pub corkplover-forward-frame-once : (κs : _) (a : _) (r r' : _) (s s' : _) → corkplover-forward-frame.Post κs a r s → corkplover-forward-frame.Post κs a r' s'
-    → let t = s .1 .1 .1 .1 .1 .1 .1 .1 .1 .1 .1 .1 .1 .1 .1 in
-    let t' = s' .1 .1 .1 .1 .1 .1 .1 .1 .1 .1 .1 .1 .1 .1 .1 in
+    → let t = s .1 .1 .1 .1 .1 .1 .1 .1 in
+    let t' = s' .1 .1 .1 .1 .1 .1 .1 .1 in
     (r ≡ r') × ((now (t .0) ≡ now (t' .0)) × ((now (t .1 .0) ≡ now (t' .1 .0)) × (now (t .1 .1 .0) ≡ now (t' .1 .1 .0))))
 corkplover-forward-frame-once κs a r r' s s' = once-all
 
@@ -100,7 +100,7 @@ pub corkplover-reverse-frame-asks-nothing : (κs : _) (a : _) → corkplover-rev
 corkplover-reverse-frame-asks-nothing κs a = tt
 
 pub corkplover-reverse-frame-once : (κs : _) (a : _) (r r' : _) (s s' : _) → corkplover-reverse-frame.Post κs a r s → corkplover-reverse-frame.Post κs a r' s'
-    → let t = s .1 .1 .1 .1 .1 .1 .1 .1 .1 .1 .1 .1 .1 .1 .1 in
-    let t' = s' .1 .1 .1 .1 .1 .1 .1 .1 .1 .1 .1 .1 .1 .1 .1 in
+    → let t = s .1 .1 .1 .1 .1 .1 .1 .1 in
+    let t' = s' .1 .1 .1 .1 .1 .1 .1 .1 in
     (r ≡ r') × ((now (t .0) ≡ now (t' .0)) × ((now (t .1 .0) ≡ now (t' .1 .0)) × (now (t .1 .1 .0) ≡ now (t' .1 .1 .0))))
 corkplover-reverse-frame-once κs a r r' s s' = once-all

@@ -1,8 +1,11 @@
--- Every field of a packed answer comes out again.
-use mathlib.Core.Path.{_≡_}
-use Prim.Native.Nat.{ℕ, _<_}
+-- Every field of a packed answer comes out again, and so does every field of a setting that was put into a word.
+use mathlib.Core.Path.{_≡_, refl, ap, _∙_}
+use mathlib.Core.Bool.{Bool, true, false}
+use Prim.Native.Nat.{ℕ, _+_, _*_, _/_, _%_, _<_}
 use native.Mathlib.Omega.{arith}
-use Rattle.corkplover.specs.Packing.{packed, numberIn, secondIn, firstIn, middleIn, lastIn}
+use lib.Dec.{eqb}
+use Rattle.setting.specs.declared.Setting.{Setting}
+use Rattle.corkplover.specs.Packing.{packed, numberIn, secondIn, firstIn, middleIn, lastIn, bit, settingIn, settingWord}
 
 pub record Fields (number second a b c x : ℕ) : Type 0 where
   pub number-out : numberIn x ≡ number
@@ -14,3 +17,59 @@ pub record Fields (number second a b c x : ℕ) : Type 0 where
 pub fields : (number second a b c : ℕ) → number < 256 → second < 256 → a < 65536 → b < 65536 → c < 65536
     → Fields number second a b c (packed number second a b c)
 fields number second a b c h k l m n = omega arith
+
+-- the numbers of a word that holds a setting
+record SettingFields (p t m r y c f g word : ℕ) : Type 0 where
+  primaries-out : word % 256 ≡ p
+  transfer-out : word / 256 % 256 ≡ t
+  matrix-out : word / 65536 % 256 ≡ m
+  rgb-out : word / 16777216 % 256 ≡ r
+  luma-out : word / 4294967296 % 256 ≡ y
+  chroma-out : word / 1099511627776 % 256 ≡ c
+  rgb-full-out : word / 281474976710656 % 2 ≡ f
+  ycc-full-out : word / 562949953421312 % 2 ≡ g
+
+setting-fields : (p t m r y c f g above : ℕ) → p < 256 → t < 256 → m < 256 → r < 256 → y < 256 → c < 256 → f < 2 → g < 2
+    → SettingFields p t m r y c f g
+    (p + t * 256 + m * 65536 + r * 16777216 + y * 4294967296 + c * 1099511627776 + f * 281474976710656 + g * 562949953421312 + above * 1125899906842624)
+setting-fields p t m r y c f g above hp ht hm hr hy hc hf hg = omega arith
+
+bit-small : (b : Bool) → bit b < 2
+bit-small true = omega arith
+bit-small false = omega arith
+
+bit-out : (b : Bool) → eqb (bit b) 1 ≡ b
+bit-out true = refl
+bit-out false = refl
+
+-- a setting whose codes and depths fit into bytes, as those of every caller do
+pub record Bytes (s : Setting) : Type 0 where
+  pub primaries-fits : s .primaries < 256
+  pub transfer-fits : s .transfer < 256
+  pub matrix-fits : s .matrix < 256
+  pub rgb-fits : s .«rgb_depth» < 256
+  pub luma-fits : s .«y_depth» < 256
+  pub chroma-fits : s .«c_depth» < 256
+
+-- what stands in the bits above a setting changes nothing
+pub setting-out : (s : Setting) (above : ℕ) → Bytes s → settingIn (settingWord s above) ≡ s
+unfolding settingIn
+setting-out s above h =
+    let f = setting-fields (s .primaries) (s .transfer) (s .matrix) (s .«rgb_depth») (s .«y_depth») (s .«c_depth») (bit (s .«rgb_full»)) (bit (s .«ycc_full»)) above
+    (h .primaries-fits) (h .transfer-fits) (h .matrix-fits) (h .rgb-fits) (h .luma-fits) (h .chroma-fits) (bit-small (s .«rgb_full»)) (bit-small (s .«ycc_full»)) in
+    let rgb = ap (λ n. eqb n 1) (f .rgb-full-out) ∙ bit-out (s .«rgb_full») in
+    let ycc = ap (λ n. eqb n 1) (f .ycc-full-out) ∙ bit-out (s .«ycc_full») in
+    λ i. record {
+      primaries = f .primaries-out i;
+      transfer = f .transfer-out i;
+      matrix = f .matrix-out i;
+      «rgb_depth» = f .rgb-out i;
+      «y_depth» = f .luma-out i;
+      «c_depth» = f .chroma-out i;
+      «rgb_full» = rgb i;
+      «ycc_full» = ycc i;
+    }
+
+-- and a word of 64 bits has room for it, with 14 bits above
+pub word-fits : (s : Setting) (above : ℕ) → Bytes s → above < 16384 → settingWord s above < 18446744073709551616
+word-fits s above h k = let f = bit-small (s .«rgb_full») in let g = bit-small (s .«ycc_full») in omega arith

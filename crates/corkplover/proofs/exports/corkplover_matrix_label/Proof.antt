@@ -1,12 +1,10 @@
 -- The exported matrix label is the number of the label.
-use mathlib.Core.Path.{ap, _∙_}
-use Rattle.setting.specs.Label.{labelNumber}
 use borrow.Author.Needs.{needs}
 use Rattle.corkplover.proofs.exports.corkplover_matrix_label.Statement.{statement}
 use Rattle.corkplover.proofs.exports.corkplover_matrix_label.Tie as tie
 
 returns : tie.Need-returns
-returns c = c .label-number .ensures ∙ ap labelNumber (c .before .matrix-label .ensures)
+returns c = cc
 
 pub corkplover-matrix-label-spec : {M : Type 1} → statement M
 corkplover-matrix-label-spec =

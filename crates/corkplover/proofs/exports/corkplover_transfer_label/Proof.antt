@@ -1,12 +1,10 @@
 -- The exported transfer label is the number of the label.
-use mathlib.Core.Path.{ap, _∙_}
-use Rattle.setting.specs.Label.{labelNumber}
 use borrow.Author.Needs.{needs}
 use Rattle.corkplover.proofs.exports.corkplover_transfer_label.Statement.{statement}
 use Rattle.corkplover.proofs.exports.corkplover_transfer_label.Tie as tie
 
 returns : tie.Need-returns
-returns c = c .label-number .ensures ∙ ap labelNumber (c .before .transfer-label .ensures)
+returns c = cc
 
 pub corkplover-transfer-label-spec : {M : Type 1} → statement M
 corkplover-transfer-label-spec =

@@ -1,0 +1,17 @@
+-- An exported reading is the reading, packed, with its level written through.
+use borrow.Author.Needs.{needs}
+use Rattle.corkplover.proofs.exports.leave_reading.Statement.{statement}
+use Rattle.corkplover.proofs.exports.leave_reading.Tie as tie
+
+returns : tie.Need-returns
+returns c = (cc, cc)
+
+pub leave-reading-spec : {M : Type 1} → statement M
+leave-reading-spec =
+    tie.close
+    (tie.spec
+    (λ c κs. search needs)
+    (λ c κs. search needs)
+    (λ c κs. search needs)
+    (λ c κs. search needs)
+    returns)

@@ -1,0 +1,131 @@
+/* Stands between a client and the library and makes a slip on the way, in every call of one export. The variable SLIP says which:
+ *
+ *   EXPORT parameters I J   two parameters in each other's place, counted from 0; a plane is one parameter with its length
+ *   EXPORT fields I J       two fields of the setting in each other's place in its word
+ *   EXPORT reversed         the word's bytes in the opposite order
+ *   EXPORT noise BIT        noise in the word's bits from this one up
+ *
+ * The client is compiled with each corkplover_NAME renamed to slipped_NAME. Answers that stay right under a slip would show that the
+ * cases cannot tell; but noise in the bits that the library does not look at has to leave them right. */
+#include "corkplover.h"
+
+#include <stdio.h>
+#include <stdlib.h>
+#include <string.h>
+
+typedef struct slot {
+    uint64_t number; /* or a plane's length */
+    void *pointer;
+} slot;
+
+enum { FIELDS = 8 };
+static const int FIRST_BIT[FIELDS] = {0, 8, 16, 24, 32, 40, 48, 49};
+static const uint64_t LARGEST[FIELDS] = {255, 255, 255, 255, 255, 255, 1, 1};
+
+/* A code or a depth in a flag's place counts as true where it is not 0. */
+static uint64_t with_fields_exchanged(uint64_t word, int i, int j)
+{
+    uint64_t again = 0;
+    for (int k = 0; k < FIELDS; k++) {
+        int from = k == i ? j : k == j ? i : k;
+        uint64_t value = word >> FIRST_BIT[from] & LARGEST[from];
+        again |= (value < LARGEST[k] ? value : LARGEST[k]) << FIRST_BIT[k];
+    }
+    return again;
+}
+
+static uint64_t reversed(uint64_t word)
+{
+    uint64_t again = 0;
+    for (int k = 0; k < 64; k += 8) again = again << 8 | (word >> k & 0xff);
+    return again;
+}
+
+static uint64_t noise_from(int bit)
+{
+    static uint64_t state = 1;
+    state = state * 6364136223846793005u + 1442695040888963407u;
+    return state >> bit << bit;
+}
+
+static void exchange(slot *a, slot *b)
+{
+    slot kept = *a;
+    *a = *b;
+    *b = kept;
+}
+
+/* The setting's word is parameter 0 of every export. */
+static void slip(const char *export_name, slot *s)
+{
+    char name[32], what[16];
+    int i = 0, j = 0;
+    const char *wanted = getenv("SLIP");
+    if (!wanted || sscanf(wanted, "%31s %15s %d %d", name, what, &i, &j) < 2 || strcmp(name, export_name) != 0) return;
+    if (strcmp(what, "parameters") == 0) exchange(&s[i], &s[j]);
+    if (strcmp(what, "fields") == 0) s[0].number = with_fields_exchanged(s[0].number, i, j);
+    if (strcmp(what, "reversed") == 0) s[0].number = reversed(s[0].number);
+    if (strcmp(what, "noise") == 0) s[0].number ^= noise_from(i);
+}
+
+#define NUMBER(i) s[i].number
+#define SAMPLE(i) (uint16_t)s[i].number
+#define LEVEL(i) (float *)s[i].pointer
+#define SOURCE(i) (const uint16_t *)s[i].pointer, s[i].number
+#define OUTPUT(i) (uint16_t *)s[i].pointer, s[i].number
+#define LENT(p, n) {n, (void *)(uintptr_t)p}
+
+#define PIXEL_CALL(name)                                                              \
+    uint64_t slipped_##name(uint64_t word, uint16_t p, uint16_t q, uint16_t r);       \
+    uint64_t slipped_##name(uint64_t word, uint16_t p, uint16_t q, uint16_t r)        \
+    {                                                                                 \
+        slot s[] = {{word, 0}, {p, 0}, {q, 0}, {r, 0}};                               \
+        slip(#name, s);                                                               \
+        return corkplover_##name(NUMBER(0), SAMPLE(1), SAMPLE(2), SAMPLE(3));         \
+    }
+PIXEL_CALL(forward_pixel)
+PIXEL_CALL(reverse_pixel)
+
+#define SAMPLE_CALL(name)                                                \
+    uint64_t slipped_##name(uint64_t word, uint16_t v, float *level);    \
+    uint64_t slipped_##name(uint64_t word, uint16_t v, float *level)     \
+    {                                                                    \
+        slot s[] = {{word, 0}, {v, 0}, {0, level}};                      \
+        slip(#name, s);                                                  \
+        return corkplover_##name(NUMBER(0), SAMPLE(1), LEVEL(2));        \
+    }
+SAMPLE_CALL(meter_y)
+SAMPLE_CALL(meter_cb)
+SAMPLE_CALL(meter_cr)
+
+uint64_t slipped_meter_pixel(uint64_t word, uint16_t p, uint16_t q, uint16_t r, float *x, float *y, float *z);
+uint64_t slipped_meter_pixel(uint64_t word, uint16_t p, uint16_t q, uint16_t r, float *x, float *y, float *z)
+{
+    slot s[] = {{word, 0}, {p, 0}, {q, 0}, {r, 0}, {0, x}, {0, y}, {0, z}};
+    slip("meter_pixel", s);
+    return corkplover_meter_pixel(NUMBER(0), SAMPLE(1), SAMPLE(2), SAMPLE(3), LEVEL(4), LEVEL(5), LEVEL(6));
+}
+
+#define PLANES const uint16_t *p, size_t ps, const uint16_t *q, size_t qs, const uint16_t *r, size_t rs
+#define OUTPUT_PLANES uint16_t *x, size_t xs, uint16_t *y, size_t ys, uint16_t *z, size_t zs
+
+#define FRAME_CALL(name)                                                                                              \
+    uint64_t slipped_##name(uint64_t word, size_t w, size_t v, size_t t, size_t u, PLANES, OUTPUT_PLANES);            \
+    uint64_t slipped_##name(uint64_t word, size_t w, size_t v, size_t t, size_t u, PLANES, OUTPUT_PLANES)             \
+    {                                                                                                                 \
+        slot s[] = {{word, 0},   {w, 0},      {v, 0},      {t, 0},      {u, 0},     LENT(p, ps),                      \
+                    LENT(q, qs), LENT(r, rs), LENT(x, xs), LENT(y, ys), LENT(z, zs)};                                 \
+        slip(#name, s);                                                                                               \
+        return corkplover_##name(NUMBER(0), NUMBER(1), NUMBER(2), NUMBER(3), NUMBER(4), SOURCE(5), SOURCE(6),         \
+                                 SOURCE(7), OUTPUT(8), OUTPUT(9), OUTPUT(10));                                        \
+    }
+FRAME_CALL(forward_frame)
+FRAME_CALL(reverse_frame)
+
+uint64_t slipped_image_check(uint64_t word, size_t w, size_t v, size_t t, PLANES);
+uint64_t slipped_image_check(uint64_t word, size_t w, size_t v, size_t t, PLANES)
+{
+    slot s[] = {{word, 0}, {w, 0}, {v, 0}, {t, 0}, LENT(p, ps), LENT(q, qs), LENT(r, rs)};
+    slip("image_check", s);
+    return corkplover_image_check(NUMBER(0), NUMBER(1), NUMBER(2), NUMBER(3), SOURCE(4), SOURCE(5), SOURCE(6));
+}
