@@ -16,9 +16,11 @@ use Rattle.setting.specs.declared.admission.Admission.the-variants as admission
 use Rattle.setting.specs.declared.admission.Served.{Served}
 use Rattle.setting.proofs.ReadyLaws.{ready}
 use Rattle.planes.specs.First.{badRule}
+use Rattle.planes.specs.Picture.{Picture, layoutOf}
 use Rattle.planes.specs.declared.search.Found.{Found}
 use Rattle.planes.specs.declared.search.Found.the-variants.{Nothing}
-use Rattle.admit.specs.Rules.{callRules, callAdmission}
+use Rattle.planes.proofs.SizeTheorems.{twice}
+use Rattle.admit.specs.Rules.{callRules, callAdmission, pictureAdmission}
 
 -- what an admission tells of the check that it was made by
 pub told-served : (c : Check) (x y : Served) → admitted c x ≡ admission.Served y → (c ≡ check.Passed) × (x ≡ y)
@@ -78,3 +80,11 @@ module _ (call : Call) (s : Setting) where
 
     pub not-past : (a : Admission) (r : Refusal) → a ≡ settingAdmission call s → a ≡ admission.Refused r → a ≡ callAdmission call s sizes bad
     not-past a r e f = f ∙ by-setting r (refused-setting a r e f)
+
+  -- of the rules on sizes only what they come to counts
+  pub same-sizes : (a b : List Rule) (bad : Found) → first a ≡ first b → callAdmission call s a bad ≡ callAdmission call s b bad
+  same-sizes a b bad e = sym (by-parts a bad) ∙ ap (answer a bad (first (settingRules call s))) e ∙ by-parts b bad
+
+-- a call that names its own layout again
+pub own-again : (call : Call) (s : Setting) (a : Picture) → pictureAdmission call s a (layoutOf a ∷ []) ≡ pictureAdmission call s a []
+own-again call s a = same-sizes call s _ _ _ (twice (a .width) (a .height) (layoutOf a))

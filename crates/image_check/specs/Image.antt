@@ -2,37 +2,37 @@
 use mathlib.Core.Bool.{Bool, not}
 use mathlib.Core.List.{[]}
 use Prim.Native.Nat.{ℕ}
+use Rattle.sample.specs.declared.Pixel.{Pixel}
 use Rattle.setting.specs.declared.Call.the-variants as call
 use Rattle.setting.specs.declared.Setting.{Setting}
-use Rattle.setting.specs.declared.verdict.Served.{Served}
-use Rattle.setting.specs.declared.verdict.Verdict.{Verdict}
-use Rattle.setting.specs.declared.verdict.Verdict.the-variants as verdict
+use Rattle.setting.specs.declared.admission.Admission.{Admission}
+use Rattle.setting.specs.declared.admission.Admission.the-variants as admission
+use Rattle.setting.specs.declared.admission.Served.{Served}
 use Rattle.planes.specs.First.{firstPlace}
+use Rattle.planes.specs.Picture.{Picture, pixelOf}
 use Rattle.planes.specs.declared.search.Found.{Found}
 use Rattle.planes.specs.declared.search.Found.the-variants as found
-use Rattle.pixel.specs.Source.{hasSource}
-use Rattle.pixel.specs.declared.Way.the-variants.{Reverse}
-use Rattle.picture.specs.Picture.{Picture, pixelOf}
-use Rattle.picture.specs.Verdict.{pictureVerdict}
+use Rattle.plan.specs.Source.{hasSource}
+use Rattle.admit.specs.Rules.{pictureAdmission}
 use Rattle.image_check.specs.declared.ImageAnswer.{ImageAnswer}
 use Rattle.image_check.specs.declared.ImageAnswer.the-variants.{Yes, NoSource, Refused}
 
--- whether the pixel at row j and column i has no source
-abbrev pub sourceless : Served → Picture → ℕ → ℕ → Bool
-sourceless x a j i = not (hasSource x (pixelOf a j i))
+-- whether the pixel at row j and column i fails a test
+abbrev pub fails : (Pixel → Bool) → Picture → ℕ → ℕ → Bool
+fails test a j i = not (test (pixelOf a j i))
 
--- the first pixel without a source, as a place of plane 0
-abbrev pub firstSourceless : Served → Picture → Found
-firstSourceless x a = firstPlace (sourceless x a) 0 (a .width) (a .height)
+-- the first pixel that fails it, as a place of plane 0
+abbrev pub firstFailing : (Pixel → Bool) → Picture → Found
+firstFailing test a = firstPlace (fails test a) 0 (a .width) (a .height)
 
 abbrev pub answerFound : Found → ImageAnswer
 answerFound (found.At place) = NoSource place
 answerFound found.Nothing = Yes
 
-abbrev pub imageBy : Verdict → Picture → ImageAnswer
-imageBy (verdict.Served x) a = answerFound (firstSourceless x a)
-imageBy (verdict.Refused r) a = Refused r
+abbrev pub imageBy : Admission → Picture → ImageAnswer
+imageBy (admission.Served x) a = answerFound (firstFailing (hasSource x) a)
+imageBy (admission.Refused r) a = Refused r
 
 -- THE answer of the image check
 unfoldable pub imageAnswer : Setting → Picture → ImageAnswer
-imageAnswer s a = imageBy (pictureVerdict call.ImageCheck Reverse s a []) a
+imageAnswer s a = imageBy (pictureAdmission call.ImageCheck s a []) a

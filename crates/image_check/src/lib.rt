@@ -1,21 +1,21 @@
 // The image check: does a picture of Y, Cb, Cr come from one of R, G, B?
 ghost use mathlib.Core.Path.{_≡_};
-ghost use Rattle.planes.specs.Sizes.{ServedSide};
-ghost use Rattle.pixel.specs.Ready.{Ready};
-ghost use Rattle.sample.specs.Depth.{InsideYCC};
-ghost use Rattle.picture.specs.Picture.{picture, sideOfPicture, EveryPixel};
-ghost use Rattle.image_check.specs.Image.{firstSourceless, imageAnswer};
-use pixel::Way;
+ghost use Rattle.planes.specs.Picture.{picture, layoutOf, EveryPixel};
+ghost use Rattle.planes.specs.Sizes.{Fits};
+ghost use Rattle.plan.specs.Plan.{planned, Roomy, Takes};
+ghost use Rattle.plan.specs.Source.{comesBack};
+ghost use Rattle.image_check.specs.Image.{firstFailing, imageAnswer};
+use plan::Plan;
 use planes::search::Found;
-use planes::size::Side;
+use planes::size::Layout;
 use planes::size::row_start;
 use refusal::Place;
 use refusal::Refusal;
 use sample::Pixel;
 use setting::Call;
 use setting::Setting;
-use setting::verdict::Served;
-use setting::verdict::Verdict;
+use setting::Way;
+use setting::admission::Admission;
 
 // Yes, or the first pixel without a source, by its row and column in a place of plane 0.
 pub enum ImageAnswer {
@@ -24,9 +24,10 @@ pub enum ImageAnswer {
     Refused(Refusal),
 }
 
-// The first pixel without a source, by row and then by column.
+// The first pixel that does not come back the same, by row and then by column.
 fn first_sourceless(
-    s: Served,
+    back: Plan,
+    forth: Plan,
     width: usize,
     height: usize,
     stride: usize,
@@ -34,14 +35,15 @@ fn first_sourceless(
     a1: &[u16],
     a2: &[u16],
 ) -> Found
-    requires { ⌜ Ready s ⌝ }
-    requires { ⌜ ServedSide width height (sideOfPicture (picture width height stride (now a0) (now a1) (now a2))) ⌝ }
-    requires { ⌜ EveryPixel (InsideYCC (s .depths)) (picture width height stride (now a0) (now a1) (now a2)) ⌝ }
-    ensures { λ r. ⌜ r ≡ firstSourceless s (picture width height stride (now (a0 .entry)) (now (a1 .entry)) (now (a2 .entry))) ⌝ }
+    requires { ⌜ Roomy back × Roomy forth ⌝ }
+    requires { ⌜ Fits width height (layoutOf (picture width height stride (now a0) (now a1) (now a2))) ⌝ }
+    requires { ⌜ EveryPixel (Takes back) (picture width height stride (now a0) (now a1) (now a2)) ⌝ }
+    requires { ⌜ EveryPixel (λ p. Takes forth (planned back p)) (picture width height stride (now a0) (now a1) (now a2)) ⌝ }
+    ensures { λ r. ⌜ r ≡ firstFailing (comesBack (planned back) (planned forth)) (picture width height stride (now (a0 .entry)) (now (a1 .entry)) (now (a2 .entry))) ⌝ }
 {
     let mut found = Found::Nothing;
     'rows: for j in 0..height {
-        let a = row_start(j, stride, height);
+        let a = row_start(j, height, stride);
         for i in 0..width {
             let k = a + i;
             let p = Pixel {
@@ -49,7 +51,7 @@ fn first_sourceless(
                 p1: a1[k],
                 p2: a2[k],
             };
-            if !pixel::has_source(s, p) {
+            if !convert::comes_back(back, forth, p) {
                 let row = j as u16;
                 let column = i as u16;
                 found = Found::At(Place {
@@ -64,7 +66,7 @@ fn first_sourceless(
     found
 }
 
-// Refusals 1 to 7 and 11, then 8, 9 and 10 on this one side, and then the answer.
+// The rules on a picture of this one side, and then the answer.
 pub fn image_check(
     s: Setting,
     width: usize,
@@ -76,27 +78,18 @@ pub fn image_check(
 ) -> ImageAnswer
     ensures { λ r. ⌜ r ≡ imageAnswer s (picture width height stride (now (a0 .entry)) (now (a1 .entry)) (now (a2 .entry))) ⌝ }
 {
-    let own = Side {
+    let own = Layout {
         stride,
         n0: a0.len(),
         n1: a1.len(),
         n2: a2.len(),
     };
-    match picture::judge(
-        Call::ImageCheck,
-        Way::Reverse,
-        s,
-        width,
-        height,
-        stride,
-        own,
-        a0,
-        a1,
-        a2,
-    ) {
-        Verdict::Refused(refusal) => ImageAnswer::Refused(refusal),
-        Verdict::Served(served) => {
-            match first_sourceless(served, width, height, stride, a0, a1, a2) {
+    match admit::admit_picture(Call::ImageCheck, s, width, height, stride, own, a0, a1, a2) {
+        Admission::Refused(refusal) => ImageAnswer::Refused(refusal),
+        Admission::Served(served) => {
+            let back = plan::plan_of(Way::Reverse, served);
+            let forth = plan::plan_of(Way::Forward, served);
+            match first_sourceless(back, forth, width, height, stride, a0, a1, a2) {
                 Found::At(place) => ImageAnswer::NoSource(place),
                 Found::Nothing => ImageAnswer::Yes,
             }

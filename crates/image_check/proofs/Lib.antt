@@ -1,2 +1,0 @@
--- Laws of the image check.
-pub mod ImageLaws
