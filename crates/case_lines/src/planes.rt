@@ -15,6 +15,9 @@ use setting::Setting;
 use text::reading;
 use text::reading::Number;
 
+// The longest plane that there is room for.
+const ROOM: usize = 20000;
+
 // No position of a line: reading stopped at a word that is no number, or too large a one.
 const STOPPED: usize = 18446744073709551615;
 
@@ -29,7 +32,7 @@ struct ReadPlane {
     next: usize,
 }
 
-fn number(line: &[u8], at: usize, most: u64) -> Step
+fn next_number(line: &[u8], at: usize, most: u64) -> Step
     ensures { λ r. ⌜ r .value ≤ most ⌝ }
 {
     match reading::number_from(line, GAP, at, most) {
@@ -48,12 +51,12 @@ fn number(line: &[u8], at: usize, most: u64) -> Step
 fn plane(line: &[u8], at: usize, out: &mut [u16]) -> ReadPlane
     ensures { λ r. ⌜ r .length ≤ length (now (out .entry)) ⌝ }
 {
-    let count = number(line, at, out.len() as u64);
+    let count = next_number(line, at, out.len() as u64);
     let length = count.value as usize;
     let mut next = count.next;
     let mut i: usize = 0;
     while i < length {
-        let one = number(line, next, 65535);
+        let one = next_number(line, next, 65535);
         out[i] = one.value as u16;
         next = one.next;
         i += 1;
@@ -63,7 +66,7 @@ fn plane(line: &[u8], at: usize, out: &mut [u16]) -> ReadPlane
 
 // A width, a height or a stride.
 fn size_at(line: &[u8], n: u8, fault: u8) -> ReadNumber {
-    form::number_at(line, GAP, n, 18446744073709551615, fault)
+    form::number_word(line, GAP, n, 18446744073709551615, fault)
 }
 
 // Old contents, which must never show.
@@ -122,17 +125,17 @@ fn convert_into(
     a1: &[u16],
     a2: &[u16],
 ) {
-    let n0 = number(line, at, 20000);
-    let n1 = number(line, n0.next, 20000);
-    let n2 = number(line, n1.next, 20000);
-    let fill = number(line, n2.next, 65535);
+    let n0 = next_number(line, at, ROOM as u64);
+    let n1 = next_number(line, n0.next, ROOM as u64);
+    let n2 = next_number(line, n1.next, ROOM as u64);
+    let fill = next_number(line, n2.next, 65535);
     if fill.next != line.len() {
         say::bad_line();
         return;
     }
-    let mut b0 = [0u16; 20000];
-    let mut b1 = [0u16; 20000];
-    let mut b2 = [0u16; 20000];
+    let mut b0 = [0u16; ROOM];
+    let mut b1 = [0u16; ROOM];
+    let mut b2 = [0u16; ROOM];
     old_contents(fill.value, &mut b0);
     old_contents(fill.value, &mut b1);
     old_contents(fill.value, &mut b2);
@@ -153,7 +156,7 @@ fn convert_into(
 }
 
 fn on_frame(line: &[u8], at: usize, forward: bool, a0: &[u16], a1: &[u16], a2: &[u16]) {
-    let w = form::setting_at(line, GAP, &RANGES);
+    let w = form::setting_words(line, GAP, &RANGES);
     let width = size_at(line, 9, w.fault);
     let height = size_at(line, 10, width.fault);
     let source_stride = size_at(line, 11, height.fault);
@@ -173,7 +176,7 @@ fn on_frame(line: &[u8], at: usize, forward: bool, a0: &[u16], a1: &[u16], a2: &
 }
 
 fn on_image(line: &[u8], at: usize, a0: &[u16], a1: &[u16], a2: &[u16]) {
-    let w = form::setting_at(line, GAP, &RANGES);
+    let w = form::setting_words(line, GAP, &RANGES);
     let width = size_at(line, 9, w.fault);
     let height = size_at(line, 10, width.fault);
     let stride = size_at(line, 11, height.fault);
@@ -185,11 +188,15 @@ fn on_image(line: &[u8], at: usize, a0: &[u16], a1: &[u16], a2: &[u16]) {
         say::bad_line();
         return;
     }
-    let s = w.setting;
-    let wide = width.value as usize;
-    let high = height.value as usize;
-    let apart = stride.value as usize;
-    say::image(frames::image_check(s, wide, high, apart, a0, a1, a2));
+    say::image(frames::image_check(
+        w.setting,
+        width.value as usize,
+        height.value as usize,
+        stride.value as usize,
+        a0,
+        a1,
+        a2,
+    ));
 }
 
 fn on_planes(line: &[u8], at: usize, call: Call, a0: &[u16], a1: &[u16], a2: &[u16]) {
@@ -197,15 +204,16 @@ fn on_planes(line: &[u8], at: usize, call: Call, a0: &[u16], a1: &[u16], a2: &[u
         Call::Forward => on_frame(line, at, true, a0, a1, a2),
         Call::Reverse => on_frame(line, at, false, a0, a1, a2),
         Call::ImageCheck => on_image(line, at, a0, a1, a2),
+        // no line meters a picture
         Call::Meter => say::bad_line(),
     }
 }
 
 // A line on a picture: three planes, from word `first` on.
 pub fn on_picture(line: &[u8], call: Call, first: u8) {
-    let mut a0 = [0u16; 20000];
-    let mut a1 = [0u16; 20000];
-    let mut a2 = [0u16; 20000];
+    let mut a0 = [0u16; ROOM];
+    let mut a1 = [0u16; ROOM];
+    let mut a2 = [0u16; ROOM];
     let p0 = plane(line, reading::start_of(line, GAP, first), &mut a0);
     let p1 = plane(line, p0.next, &mut a1);
     let p2 = plane(line, p1.next, &mut a2);

@@ -5,6 +5,8 @@ mod wording;
 
 ghost use Prim.Native.Nat.{_≤_};
 ghost use lib.ListN.{length};
+use meter::SampleKind;
+use request::CodeKind;
 use request::form;
 use request::form::Asked;
 use request::form::Expected;
@@ -28,28 +30,34 @@ fn on_pixel(words: &[u8], forward: bool, call: Call) {
     asked(words, forward, form::pixel_form(call, words, GAP, &RANGES));
 }
 
-fn on_label(words: &[u8]) {
-    let place = reading::place_at(words, GAP, 1, b"primaries transfer matrix");
-    if 2 < place {
-        saying::fault(words, 1, Expected::CodeKind);
-        return;
-    }
-    let kind = form::code_kind_of(place);
-    asked(words, true, form::label_form(kind, words, GAP, 2));
-}
-
-fn on_meter(words: &[u8]) {
-    let place = reading::place_at(words, GAP, 9, b"y cb cr");
-    if 2 < place {
-        on_pixel(words, true, Call::Meter);
-        return;
-    }
-    let kind = form::kind_of(place);
+fn on_sample(words: &[u8], kind: SampleKind) {
     asked(
         words,
         true,
         form::sample_form(kind, words, GAP, &RANGES, 10),
     );
+}
+
+fn on_code(words: &[u8], kind: CodeKind) {
+    asked(words, true, form::label_form(kind, words, GAP, 2));
+}
+
+fn on_meter(words: &[u8]) {
+    match reading::place_at(words, GAP, 9, b"y cb cr") {
+        0 => on_sample(words, SampleKind::Y),
+        1 => on_sample(words, SampleKind::Cb),
+        2 => on_sample(words, SampleKind::Cr),
+        _ => on_pixel(words, true, Call::Meter),
+    }
+}
+
+fn on_label(words: &[u8]) {
+    match reading::place_at(words, GAP, 1, b"primaries transfer matrix") {
+        0 => on_code(words, CodeKind::Primaries),
+        1 => on_code(words, CodeKind::Transfer),
+        2 => on_code(words, CodeKind::Matrix),
+        _ => saying::fault(words, 1, Expected::CodeKind),
+    }
 }
 
 fn on_words(words: &[u8]) {

@@ -13,12 +13,12 @@ use Rattle.meter.specs.declared.SampleKind.the-variants as kind
 use Rattle.setting.specs.declared.Call.{Call}
 use Rattle.setting.specs.declared.Call.the-variants.{Forward, Reverse, Meter, ImageCheck}
 use Rattle.request.specs.declared.CodeKind.{CodeKind}
-use Rattle.request.specs.declared.CodeKind.the-variants as code
 use Rattle.request.specs.declared.Request.the-variants as request
 use Rattle.request.specs.declared.form.Asked.{Asked}
 use Rattle.request.specs.declared.form.Asked.the-variants.{For, Fault}
 use Rattle.request.specs.declared.form.Expected.{Expected}
-use Rattle.request.specs.declared.form.Expected.the-variants.{Verb, Primaries, Transfer, Matrix, RgbDepth, YDepth, CDepth, RgbRange, YccRange, Red, Green, Blue, Luma, Cb, Cr, KindOrLuma, Code, NoMore}
+use Rattle.request.specs.declared.form.Expected.the-variants.{Verb, Primaries, Transfer, Matrix, RgbDepth, YDepth, CDepth, RgbRange, YccRange}
+use Rattle.request.specs.declared.form.Expected.the-variants.{Red, Green, Blue, Luma, Cb, Cr, KindOrLuma, Code, NoMore}
 use Rattle.request.specs.declared.form.ReadNumber.{ReadNumber}
 use Rattle.request.specs.declared.form.ReadSetting.{ReadSetting}
 use Rattle.request.specs.declared.form.ReadPixel.{ReadPixel}
@@ -32,31 +32,31 @@ abbrev pub taken : ℕ → ℕ → Number → ReadNumber
 taken n fault (number.Value v) = record { value = v; fault = fault }
 taken n fault number.Nothing = record { value = 0; fault = min fault n }
 
-abbrev pub numberFrom : ℕ → List ℕ → ℕ → ℕ → ℕ → ReadNumber
-numberFrom gap s n most fault = taken n fault (numberOf (wordOf gap s n) most)
+abbrev pub numberWord : ℕ → List ℕ → ℕ → ℕ → ℕ → ReadNumber
+numberWord gap s n most fault = taken n fault (numberOf (wordOf gap s n) most)
 
 -- word n as a range, by its place among two names: 0 is narrow, 1 is full
 abbrev pub rangeTaken : ℕ → ℕ → ℕ → ReadNumber
 rangeTaken n fault place = taken n fault (cond (ltb place 2) (number.Value place) number.Nothing)
 
-abbrev pub rangeFrom : ℕ → List ℕ → ℕ → List ℕ → ℕ → ReadNumber
-rangeFrom gap s n ranges fault = rangeTaken n fault (indexIn (wordOf gap s n) (split 32 ranges))
+abbrev pub rangeWord : ℕ → List ℕ → ℕ → List ℕ → ℕ → ReadNumber
+rangeWord gap s n ranges fault = rangeTaken n fault (indexIn (wordOf gap s n) (split 32 ranges))
 
 -- no word n
-abbrev pub endFrom : ℕ → List ℕ → ℕ → ℕ → ℕ
-endFrom gap s n fault = cond (ltb n (length (split gap s))) (min fault n) fault
+abbrev pub endOfWords : ℕ → List ℕ → ℕ → ℕ → ℕ
+endOfWords gap s n fault = cond (ltb n (length (split gap s))) (min fault n) fault
 
 -- words 1 to 8
-unfoldable pub settingFrom : ℕ → List ℕ → List ℕ → ReadSetting
-settingFrom gap s ranges =
-    let primaries = numberFrom gap s 1 255 clear in
-    let transfer = numberFrom gap s 2 255 (primaries .fault) in
-    let matrix = numberFrom gap s 3 255 (transfer .fault) in
-    let rgb = numberFrom gap s 4 255 (matrix .fault) in
-    let y = numberFrom gap s 5 255 (rgb .fault) in
-    let c = numberFrom gap s 6 255 (y .fault) in
-    let rgbRange = rangeFrom gap s 7 ranges (c .fault) in
-    let yccRange = rangeFrom gap s 8 ranges (rgbRange .fault) in
+unfoldable pub settingWords : ℕ → List ℕ → List ℕ → ReadSetting
+settingWords gap s ranges =
+    let primaries = numberWord gap s 1 255 clear in
+    let transfer = numberWord gap s 2 255 (primaries .fault) in
+    let matrix = numberWord gap s 3 255 (transfer .fault) in
+    let rgb = numberWord gap s 4 255 (matrix .fault) in
+    let y = numberWord gap s 5 255 (rgb .fault) in
+    let c = numberWord gap s 6 255 (y .fault) in
+    let rgbRange = rangeWord gap s 7 ranges (c .fault) in
+    let yccRange = rangeWord gap s 8 ranges (rgbRange .fault) in
     record {
       setting =
           record {
@@ -73,11 +73,11 @@ settingFrom gap s ranges =
     }
 
 -- words 9 to 11
-unfoldable pub pixelFrom : ℕ → List ℕ → ℕ → ReadPixel
-pixelFrom gap s fault =
-    let a = numberFrom gap s 9 65535 fault in
-    let b = numberFrom gap s 10 65535 (a .fault) in
-    let c = numberFrom gap s 11 65535 (b .fault) in
+unfoldable pub pixelWords : ℕ → List ℕ → ℕ → ReadPixel
+pixelWords gap s fault =
+    let a = numberWord gap s 9 65535 fault in
+    let b = numberWord gap s 10 65535 (a .fault) in
+    let c = numberWord gap s 11 65535 (b .fault) in
     record { pixel = record { p0 = a .value; p1 = b .value; p2 = c .value }; fault = c .fault }
 
 -- what is expected of each word, where the three after the setting are these
@@ -98,13 +98,6 @@ expectedSample kind.Y = Luma
 expectedSample kind.Cb = Cb
 expectedSample kind.Cr = Cr
 
--- the kinds of sample and the kinds of code by their places in a list of names; every place after the list is the last
-abbrev pub kindOf : ℕ → SampleKind
-kindOf place = getD (kind.Y ∷ kind.Cb ∷ []) place kind.Cr
-
-abbrev pub codeKindOf : ℕ → CodeKind
-codeKindOf place = getD (code.Primaries ∷ code.Transfer ∷ []) place code.Matrix
-
 -- a request about a pixel
 abbrev pub pixelAsked : Call → ReadSetting → ReadPixel → ℕ → Asked
 pixelAsked call w p fault =
@@ -112,9 +105,9 @@ pixelAsked call w p fault =
 
 unfoldable pub pixelForm : Call → ℕ → List ℕ → List ℕ → Asked
 pixelForm call gap s ranges =
-    let w = settingFrom gap s ranges in
-    let p = pixelFrom gap s (w .fault) in
-    pixelAsked call w p (endFrom gap s 12 (p .fault))
+    let w = settingWords gap s ranges in
+    let p = pixelWords gap s (w .fault) in
+    pixelAsked call w p (endOfWords gap s 12 (p .fault))
 
 -- a request about one sample, word n
 abbrev pub sampleAsked : SampleKind → ReadSetting → ReadNumber → ℕ → ℕ → Asked
@@ -124,9 +117,9 @@ sampleAsked kind w v n fault =
 
 unfoldable pub sampleForm : SampleKind → ℕ → List ℕ → List ℕ → ℕ → Asked
 sampleForm kind gap s ranges n =
-    let w = settingFrom gap s ranges in
-    let v = numberFrom gap s n 65535 (w .fault) in
-    sampleAsked kind w v n (endFrom gap s (n + 1) (v .fault))
+    let w = settingWords gap s ranges in
+    let v = numberWord gap s n 65535 (w .fault) in
+    sampleAsked kind w v n (endOfWords gap s (n + 1) (v .fault))
 
 -- a request about a code, word n
 abbrev pub labelAsked : CodeKind → ReadNumber → ℕ → ℕ → Asked
@@ -135,5 +128,5 @@ labelAsked kind v n fault =
 
 unfoldable pub labelForm : CodeKind → ℕ → List ℕ → ℕ → Asked
 labelForm kind gap s n =
-    let v = numberFrom gap s n 255 clear in
-    labelAsked kind v n (endFrom gap s (n + 1) (v .fault))
+    let v = numberWord gap s n 255 clear in
+    labelAsked kind v n (endOfWords gap s (n + 1) (v .fault))

@@ -2,7 +2,7 @@
 // stands between words, and the names of the two ranges, narrow and full, with a blank between them.
 ghost use mathlib.Core.Path.{_≡_};
 ghost use Prim.Native.Nat.{_≤_, _<_, min};
-ghost use Rattle.request.specs.Form.{numberFrom, rangeFrom, endFrom, settingFrom, pixelFrom, expectedWith, expectedAt, expectedSample, kindOf, codeKindOf, pixelForm, sampleForm, labelForm};
+ghost use Rattle.request.specs.Form.{numberWord, rangeWord, endOfWords, settingWords, pixelWords, expectedWith, expectedAt, expectedSample, pixelForm, sampleForm, labelForm};
 use crate::CodeKind;
 use crate::Request;
 use meter::SampleKind;
@@ -68,8 +68,8 @@ fn earlier(a: u8, b: u8) -> u8
 }
 
 // Word n as a number from 0 to `most`.
-pub fn number_at(s: &[u8], gap: u8, n: u8, most: u64, fault: u8) -> ReadNumber
-    ensures { λ r. ⌜ r ≡ numberFrom gap (now (s .entry)) n most fault ⌝ }
+pub fn number_word(s: &[u8], gap: u8, n: u8, most: u64, fault: u8) -> ReadNumber
+    ensures { λ r. ⌜ r ≡ numberWord gap (now (s .entry)) n most fault ⌝ }
     ensures { λ r. ⌜ r .value ≤ most ⌝ }
 {
     match reading::number_at(s, gap, n, most) {
@@ -82,8 +82,8 @@ pub fn number_at(s: &[u8], gap: u8, n: u8, most: u64, fault: u8) -> ReadNumber
 }
 
 // Word n as the place of a range's name.
-fn range_at(s: &[u8], gap: u8, n: u8, ranges: &[u8], fault: u8) -> ReadNumber
-    ensures { λ r. ⌜ r ≡ rangeFrom gap (now (s .entry)) n (now (ranges .entry)) fault ⌝ }
+fn range_word(s: &[u8], gap: u8, n: u8, ranges: &[u8], fault: u8) -> ReadNumber
+    ensures { λ r. ⌜ r ≡ rangeWord gap (now (s .entry)) n (now (ranges .entry)) fault ⌝ }
 {
     let place = reading::place_at(s, gap, n, ranges);
     if place < 2 {
@@ -99,8 +99,8 @@ fn range_at(s: &[u8], gap: u8, n: u8, ranges: &[u8], fault: u8) -> ReadNumber
 }
 
 // The words must have ended before word n.
-fn end_at(s: &[u8], gap: u8, n: u8, fault: u8) -> u8
-    ensures { λ r. ⌜ r ≡ endFrom gap (now (s .entry)) n fault ⌝ }
+fn end_of_words(s: &[u8], gap: u8, n: u8, fault: u8) -> u8
+    ensures { λ r. ⌜ r ≡ endOfWords gap (now (s .entry)) n fault ⌝ }
 {
     if reading::has_word(s, gap, n) {
         earlier(fault, n)
@@ -109,17 +109,17 @@ fn end_at(s: &[u8], gap: u8, n: u8, fault: u8) -> u8
     }
 }
 
-pub fn setting_at(s: &[u8], gap: u8, ranges: &[u8]) -> ReadSetting
-    ensures { λ r. ⌜ r ≡ settingFrom gap (now (s .entry)) (now (ranges .entry)) ⌝ }
+pub fn setting_words(s: &[u8], gap: u8, ranges: &[u8]) -> ReadSetting
+    ensures { λ r. ⌜ r ≡ settingWords gap (now (s .entry)) (now (ranges .entry)) ⌝ }
 {
-    let primaries = number_at(s, gap, 1, 255, CLEAR);
-    let transfer = number_at(s, gap, 2, 255, primaries.fault);
-    let matrix = number_at(s, gap, 3, 255, transfer.fault);
-    let rgb_depth = number_at(s, gap, 4, 255, matrix.fault);
-    let y_depth = number_at(s, gap, 5, 255, rgb_depth.fault);
-    let c_depth = number_at(s, gap, 6, 255, y_depth.fault);
-    let rgb_range = range_at(s, gap, 7, ranges, c_depth.fault);
-    let ycc_range = range_at(s, gap, 8, ranges, rgb_range.fault);
+    let primaries = number_word(s, gap, 1, 255, CLEAR);
+    let transfer = number_word(s, gap, 2, 255, primaries.fault);
+    let matrix = number_word(s, gap, 3, 255, transfer.fault);
+    let rgb_depth = number_word(s, gap, 4, 255, matrix.fault);
+    let y_depth = number_word(s, gap, 5, 255, rgb_depth.fault);
+    let c_depth = number_word(s, gap, 6, 255, y_depth.fault);
+    let rgb_range = range_word(s, gap, 7, ranges, c_depth.fault);
+    let ycc_range = range_word(s, gap, 8, ranges, rgb_range.fault);
     let setting = Setting {
         primaries: primaries.value as u8,
         transfer: transfer.value as u8,
@@ -136,12 +136,12 @@ pub fn setting_at(s: &[u8], gap: u8, ranges: &[u8]) -> ReadSetting
     }
 }
 
-fn pixel_at(s: &[u8], gap: u8, fault: u8) -> ReadPixel
-    ensures { λ r. ⌜ r ≡ pixelFrom gap (now (s .entry)) fault ⌝ }
+fn pixel_words(s: &[u8], gap: u8, fault: u8) -> ReadPixel
+    ensures { λ r. ⌜ r ≡ pixelWords gap (now (s .entry)) fault ⌝ }
 {
-    let a = number_at(s, gap, 9, 65535, fault);
-    let b = number_at(s, gap, 10, 65535, a.fault);
-    let c = number_at(s, gap, 11, 65535, b.fault);
+    let a = number_word(s, gap, 9, 65535, fault);
+    let b = number_word(s, gap, 10, 65535, a.fault);
+    let c = number_word(s, gap, 11, 65535, b.fault);
     let pixel = Pixel {
         p0: a.value as u16,
         p1: b.value as u16,
@@ -199,34 +199,13 @@ fn expected_sample(kind: SampleKind) -> Expected
     }
 }
 
-// The kinds of sample and the kinds of code, by their place among names that are listed in this order.
-pub fn kind_of(place: usize) -> SampleKind
-    ensures { λ r. ⌜ r ≡ kindOf place ⌝ }
-{
-    match place {
-        0 => SampleKind::Y,
-        1 => SampleKind::Cb,
-        _ => SampleKind::Cr,
-    }
-}
-
-pub fn code_kind_of(place: usize) -> CodeKind
-    ensures { λ r. ⌜ r ≡ codeKindOf place ⌝ }
-{
-    match place {
-        0 => CodeKind::Primaries,
-        1 => CodeKind::Transfer,
-        _ => CodeKind::Matrix,
-    }
-}
-
 // A setting and three samples.
 pub fn pixel_form(call: Call, s: &[u8], gap: u8, ranges: &[u8]) -> Asked
     ensures { λ r. ⌜ r ≡ pixelForm call gap (now (s .entry)) (now (ranges .entry)) ⌝ }
 {
-    let w = setting_at(s, gap, ranges);
-    let p = pixel_at(s, gap, w.fault);
-    let word = end_at(s, gap, 12, p.fault);
+    let w = setting_words(s, gap, ranges);
+    let p = pixel_words(s, gap, w.fault);
+    let word = end_of_words(s, gap, 12, p.fault);
     if word == CLEAR {
         let setting = w.setting;
         let pixel = p.pixel;
@@ -241,9 +220,9 @@ pub fn sample_form(kind: SampleKind, s: &[u8], gap: u8, ranges: &[u8], n: u8) ->
     requires { ⌜ n < 254 ⌝ }
     ensures { λ r. ⌜ r ≡ sampleForm kind gap (now (s .entry)) (now (ranges .entry)) n ⌝ }
 {
-    let w = setting_at(s, gap, ranges);
-    let v = number_at(s, gap, n, 65535, w.fault);
-    let word = end_at(s, gap, n + 1, v.fault);
+    let w = setting_words(s, gap, ranges);
+    let v = number_word(s, gap, n, 65535, w.fault);
+    let word = end_of_words(s, gap, n + 1, v.fault);
     if word == CLEAR {
         let setting = w.setting;
         let value = v.value as u16;
@@ -262,8 +241,8 @@ pub fn label_form(kind: CodeKind, s: &[u8], gap: u8, n: u8) -> Asked
     requires { ⌜ n < 254 ⌝ }
     ensures { λ r. ⌜ r ≡ labelForm kind gap (now (s .entry)) n ⌝ }
 {
-    let v = number_at(s, gap, n, 255, CLEAR);
-    let word = end_at(s, gap, n + 1, v.fault);
+    let v = number_word(s, gap, n, 255, CLEAR);
+    let word = end_of_words(s, gap, n + 1, v.fault);
     if word == CLEAR {
         let code = v.value as u8;
         return Asked::For(Request::Label(kind, code));

@@ -1,4 +1,4 @@
-// The front desk: what can be asked of the box about a pixel, a sample or a code, and what the box answers.
+// Requests: what can be asked of the box about a pixel, a sample or a code, and what the box answers.
 pub mod ask;
 pub mod form;
 

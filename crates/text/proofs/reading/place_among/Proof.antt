@@ -38,7 +38,8 @@ loop-again c =
     let l = c .before .before .before .before .before .loop in
     let n = c .next-of .ensures in
     let h = n .onward (omega arith) in
-    let p = place-on (now (a .names)) (now (a .word)) (l .at) _ (omega arith) (rw (← c .before .before .before .word-from .ensures) (sym (c .before .before .same-word .ensures) ∙ c .before .if1 .left)) n in
+    let m = c .before .before in
+    let p = place-on (now (a .names)) (now (a .word)) (l .at) _ (omega arith) (rw (← m .before .word-from .ensures) (sym (m .same-word .ensures) ∙ c .before .if1 .left)) n in
     (omega (arith, l .inv .0), omega arith, n .within)
 
 returns-2 : tie.Need-returns-2 Inv-loop μ-loop
