@@ -8,7 +8,6 @@ use Rattle.setting.specs.declared.Call.{Call}
 use Rattle.setting.specs.declared.Call.the-variants as call
 use Rattle.setting.specs.declared.Setting.{Setting}
 use Rattle.setting.specs.declared.label.Label.{Label}
-use Rattle.meter.specs.Level.{IsNumber, AreNumbers}
 use Rattle.pixel.specs.declared.Way.the-variants.{Forward, Reverse}
 use Rattle.corkplover.specs.Answers.{pixelAnswer, sourceAnswer, reading, levelsAnswer}
 use Rattle.corkplover.specs.declared.pixels.PixelAnswer.{PixelAnswer}
@@ -42,15 +41,6 @@ ofReading (meter.Refused r) = Refused r
 abbrev pub ofLevels : LevelsAnswer → Answer
 ofLevels (levels.Levels l) = Levels (toBits binary32 (l .y)) (toBits binary32 (l .cb)) (toBits binary32 (l .cr))
 ofLevels (levels.Refused r) = Refused r
-
--- an answer whose levels have bits
-abbrev pub NumberIn : Reading → Type 0
-NumberIn (meter.Level x) = IsNumber x
-NumberIn (meter.Refused r) = Unit {0}
-
-abbrev pub NumbersIn : LevelsAnswer → Type 0
-NumbersIn (levels.Levels l) = AreNumbers l
-NumbersIn (levels.Refused r) = Unit {0}
 
 abbrev pub askPixel : Call → Setting → Pixel → Answer
 askPixel call.Forward s p = ofPixel (pixelAnswer Forward s p)

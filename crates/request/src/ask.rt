@@ -1,7 +1,7 @@
 // Every request is passed on to its entry point, and the answers come back as one type. A level is handed on as its bits.
 ghost use mathlib.Core.Path.{_≡_};
-ghost use Rattle.corkplover.specs.Answers.{reading};
-ghost use Rattle.request.specs.Answers.{NumberIn, NumbersIn, ofPixel, ofSource, ofReading, ofLevels, askPixel, labelFor, answerTo};
+ghost use Rattle.corkplover.specs.Answers.{reading, levelsAnswer};
+ghost use Rattle.request.specs.Answers.{ofPixel, ofSource, ofReading, ofLevels, askPixel, labelFor, answerTo};
 use crate::CodeKind;
 use crate::Request;
 use corkplover::labels;
@@ -46,21 +46,19 @@ fn of_source(a: SourceAnswer) -> Answer
     }
 }
 
-fn of_reading(a: Reading) -> Answer
-    requires { ⌜ NumberIn a ⌝ }
-    ensures { λ r. ⌜ r ≡ ofReading a ⌝ }
+fn ask_sample(kind: SampleKind, s: Setting, v: u16) -> Answer
+    ensures { λ r. ⌜ r ≡ ofReading (reading kind s v) ⌝ }
 {
-    match a {
+    match meters::meter_sample(kind, s, v) {
         Reading::Level(x) => Answer::Level(f32::to_bits(x)),
         Reading::Refused(refusal) => Answer::Refused(refusal),
     }
 }
 
-fn of_levels(a: LevelsAnswer) -> Answer
-    requires { ⌜ NumbersIn a ⌝ }
-    ensures { λ r. ⌜ r ≡ ofLevels a ⌝ }
+fn ask_levels(s: Setting, p: Pixel) -> Answer
+    ensures { λ r. ⌜ r ≡ ofLevels (levelsAnswer s p) ⌝ }
 {
-    match a {
+    match meters::meter_pixel(s, p) {
         LevelsAnswer::Levels(l) => Answer::Levels(
             f32::to_bits(l.y),
             f32::to_bits(l.cb),
@@ -76,15 +74,9 @@ fn ask_pixel(call: Call, s: Setting, p: Pixel) -> Answer
     match call {
         Call::Forward => of_pixel(pixels::forward_pixel(s, p)),
         Call::Reverse => of_pixel(pixels::reverse_pixel(s, p)),
-        Call::Meter => of_levels(meters::meter_pixel(s, p)),
+        Call::Meter => ask_levels(s, p),
         Call::ImageCheck => of_source(pixels::source_pixel(s, p)),
     }
-}
-
-fn ask_sample(kind: SampleKind, s: Setting, v: u16) -> Answer
-    ensures { λ r. ⌜ r ≡ ofReading (reading kind s v) ⌝ }
-{
-    of_reading(meters::meter_sample(kind, s, v))
 }
 
 fn label_of(kind: CodeKind, code: u8) -> Label

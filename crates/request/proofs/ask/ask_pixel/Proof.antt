@@ -1,14 +1,9 @@
--- `request::ask::ask_pixel` meets its contract: each call goes to its entry point, and the levels of a pixel are numbers.
-use mathlib.Core.Path.{sym, ap, _∙_}
-use native.Mathlib.Omega.{arith}
-use Rattle.request.specs.Answers.{ofPixel, ofSource, ofLevels}
-use Rattle.request.proofs.LevelLaws.{levels-numbers}
+-- `request::ask::ask_pixel` meets its contract: each call goes to its entry point.
+use mathlib.Core.Path.{ap, _∙_}
+use Rattle.request.specs.Answers.{ofPixel, ofSource}
 use borrow.Author.Needs.{needs}
 use Rattle.request.proofs.ask.ask_pixel.Statement.{statement}
 use Rattle.request.proofs.ask.ask_pixel.Tie as tie
-
-of-levels-requires : tie.Need-of-levels-requires
-of-levels-requires c κs = levels-numbers _ _ (omega arith) (omega arith) (omega arith) _ (sym (c .meter-pixel .ensures))
 
 returns : tie.Need-returns
 returns c = rw (c .before .before .enum-told .given .1) (c .of-pixel .ensures ∙ ap ofPixel (c .before .forward-pixel .ensures))
@@ -17,7 +12,7 @@ returns-2 : tie.Need-returns-2
 returns-2 c = rw (c .before .before .enum-told2 .given .1) (c .of-pixel2 .ensures ∙ ap ofPixel (c .before .reverse-pixel .ensures))
 
 returns-3 : tie.Need-returns-3
-returns-3 c = rw (c .before .before .enum-told3 .given .1) (c .of-levels .ensures ∙ ap ofLevels (c .before .meter-pixel .ensures))
+returns-3 c = rw (c .before .enum-told3 .given .1) (c .ask-levels .ensures)
 
 returns-4 : tie.Need-returns-4
 returns-4 c = rw (c .before .before .enum-told4 .given .1) (c .of-source .ensures ∙ ap ofSource (c .before .source-pixel .ensures))
@@ -34,7 +29,6 @@ ask-pixel-spec =
     (λ c κs. search needs)
     (λ c. search needs)
     (λ c κs. search needs)
-    of-levels-requires
     (λ c. search needs)
     (λ c κs. search needs)
     (λ c κs. search needs)
