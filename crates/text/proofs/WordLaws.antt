@@ -69,7 +69,7 @@ first-word gap b (c ∷ s) = go (eqb b gap) (first-word gap c s)
     go false e = ap (begun b) e
 
 module _ (gap : ℕ) (s : List ℕ) where
-  pub split-step : (at : ℕ) → at < length s
+  split-step : (at : ℕ) → at < length s
       → split gap (drop at s) ≡ take (endOf gap s at - at) (drop at s) ∷ split gap (drop (endOf gap s at + 1) s)
   split-step at h =
       let b = getD s at 0 in
@@ -79,7 +79,7 @@ module _ (gap : ℕ) (s : List ℕ) where
       let j : endOf gap s at + 1 ≡ at + suc (before gap (drop at s)) = omega arith in
       rw (k, j, ← drop-drop (suc (before gap (drop at s))) at s, l) (first-word gap b r)
 
-  pub split-over : (at : ℕ) → length s ≤ at → split gap (drop at s) ≡ []
+  split-over : (at : ℕ) → length s ≤ at → split gap (drop at s) ≡ []
   unfolding split
   split-over at h = rw (drop-of-length-le s h)
 
