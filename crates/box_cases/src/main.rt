@@ -1,6 +1,6 @@
 // Answers the cases on standard input. What it writes is held to the stored answers.
 fn main() {
-    let mut text = cases::room();
+    let mut text = case_lines::room();
     let n = io::read_full(0, &mut text);
-    cases::all(&text[..n]);
+    case_lines::all(&text[..n]);
 }

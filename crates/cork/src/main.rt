@@ -1,49 +1,63 @@
-// The box at the counter. It reads its words, asks the front desk, and says the answer in words with its numbers.
+// The box at the counter. It reads its words, asks the box, and says the answer in words with its numbers.
 mod output;
 mod saying;
 mod wording;
 
 ghost use Prim.Native.Nat.{_≤_};
 ghost use lib.ListN.{length};
-use desk::form;
-use desk::form::Asked;
+use meter::SampleKind;
+use request::CodeKind;
+use request::form;
+use request::form::Asked;
+use request::form::Expected;
 use setting::Call;
 use text::reading;
 
 // The byte between two words: no word can hold it.
 const GAP: u8 = 0;
 
+// The names of the two ranges.
+const RANGES: [u8; 11] = *b"narrow full";
+
 fn asked(words: &[u8], forward: bool, a: Asked) {
     match a {
-        Asked::For(request) => saying::answer(forward, desk::ask::ask(request)),
+        Asked::For(request) => saying::answer(forward, request::ask::ask(request)),
         Asked::Fault { word, expected } => saying::fault(words, word, expected),
     }
 }
 
-fn on_label(words: &[u8]) {
-    let place = reading::place_at(words, GAP, 1, b"primaries transfer matrix");
-    if 2 < place {
-        saying::fault(words, 1, form::CODE_KIND);
-        return;
-    }
+fn on_pixel(words: &[u8], forward: bool, call: Call) {
+    asked(words, forward, form::pixel_form(call, words, GAP, &RANGES));
+}
+
+fn on_sample(words: &[u8], kind: SampleKind) {
     asked(
         words,
         true,
-        form::label_form(form::code_kind_of(place), words, GAP, 2),
+        form::sample_form(kind, words, GAP, &RANGES, 10),
     );
 }
 
+fn on_code(words: &[u8], kind: CodeKind) {
+    asked(words, true, form::label_form(kind, words, GAP, 2));
+}
+
 fn on_meter(words: &[u8]) {
-    let place = reading::place_at(words, GAP, 9, b"y cb cr");
-    if 2 < place {
-        asked(words, true, form::pixel_form(Call::Meter, words, GAP));
-        return;
+    match reading::place_at(words, GAP, 9, b"y cb cr") {
+        0 => on_sample(words, SampleKind::Y),
+        1 => on_sample(words, SampleKind::Cb),
+        2 => on_sample(words, SampleKind::Cr),
+        _ => on_pixel(words, true, Call::Meter),
     }
-    asked(
-        words,
-        true,
-        form::sample_form(form::kind_of(place), words, GAP, 10),
-    );
+}
+
+fn on_label(words: &[u8]) {
+    match reading::place_at(words, GAP, 1, b"primaries transfer matrix") {
+        0 => on_code(words, CodeKind::Primaries),
+        1 => on_code(words, CodeKind::Transfer),
+        2 => on_code(words, CodeKind::Matrix),
+        _ => saying::fault(words, 1, Expected::CodeKind),
+    }
 }
 
 fn on_words(words: &[u8]) {
@@ -54,13 +68,13 @@ fn on_words(words: &[u8]) {
         b"forward reverse source meter label help --help -h",
     );
     match verb {
-        0 => asked(words, true, form::pixel_form(Call::Forward, words, GAP)),
-        1 => asked(words, false, form::pixel_form(Call::Reverse, words, GAP)),
-        2 => asked(words, true, form::pixel_form(Call::ImageCheck, words, GAP)),
+        0 => on_pixel(words, true, Call::Forward),
+        1 => on_pixel(words, false, Call::Reverse),
+        2 => on_pixel(words, true, Call::ImageCheck),
         3 => on_meter(words),
         4 => on_label(words),
         5..=7 => wording::usage(),
-        _ => saying::fault(words, 0, form::VERB),
+        _ => saying::fault(words, 0, Expected::Verb),
     }
 }
 

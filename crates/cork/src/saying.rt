@@ -4,22 +4,22 @@ use crate::output::hex;
 use crate::output::number;
 use crate::output::say;
 use crate::wording;
-use desk::ask::Answer;
-use desk::form;
 use refusal::Refusal;
+use request::ask::Answer;
+use request::form::Expected;
 use sample::Pixel;
 use setting::label::Label;
 use text::reading;
 
 // The word at which reading stopped, and what was expected of it.
-pub fn fault(words: &[u8], word: u8, n: u8) {
+pub fn fault(words: &[u8], word: u8, expected: Expected) {
     say(b"word ");
     number(word as u64 + 1);
     if reading::has_word(words, GAP, word) {
         say(b", '");
         say(reading::word_at(words, GAP, word));
         say(b"',");
-        if n == form::NO_MORE {
+        if let Expected::NoMore = expected {
             say(b" is one too many\n");
             return;
         }
@@ -28,7 +28,7 @@ pub fn fault(words: &[u8], word: u8, n: u8) {
         say(b" is missing");
     }
     say(b"; expected: ");
-    wording::expected(n);
+    wording::expected(expected);
     say(b"\n");
 }
 

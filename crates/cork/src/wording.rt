@@ -1,5 +1,6 @@
 // The counter's fixed sentences: how it is asked, what was expected of a word, and what a refusal means.
 use crate::output::say;
+use request::form::Expected;
 
 pub fn usage() {
     say(b"cork: one pixel of the colour converter box\n\n");
@@ -20,27 +21,28 @@ pub fn usage() {
     say(b"Status: 0 for an answer, 1 for a refusal, 2 for words that were not understood.\n");
 }
 
-// What was expected of a word, by the front desk's number, where any was.
-pub fn expected(n: u8) {
-    match n {
-        0 => say(b"forward, reverse, source, meter or label"),
-        1 => say(b"the colour primaries, a number from 0 to 255"),
-        2 => say(b"the transfer characteristics, a number from 0 to 255"),
-        3 => say(b"the matrix coefficients, a number from 0 to 255"),
-        4 => say(b"the RGB depth in bits, a number from 0 to 255"),
-        5 => say(b"the Y depth in bits, a number from 0 to 255"),
-        6 => say(b"the C depth in bits, a number from 0 to 255"),
-        7 => say(b"full or narrow, for the RGB side"),
-        8 => say(b"full or narrow, for the YCbCr side"),
-        9 => say(b"the R sample, a number from 0 to 65535"),
-        10 => say(b"the G sample, a number from 0 to 65535"),
-        11 => say(b"the B sample, a number from 0 to 65535"),
-        12 => say(b"the Y sample, a number from 0 to 65535"),
-        13 => say(b"the Cb sample, a number from 0 to 65535"),
-        14 => say(b"the Cr sample, a number from 0 to 65535"),
-        15 => say(b"y, cb or cr, or the Y sample from 0 to 65535"),
-        16 => say(b"primaries, transfer or matrix"),
-        _ => say(b"a code, a number from 0 to 255"),
+// What was expected of a word.
+pub fn expected(e: Expected) {
+    match e {
+        Expected::Verb => say(b"forward, reverse, source, meter or label"),
+        Expected::Primaries => say(b"the colour primaries, a number from 0 to 255"),
+        Expected::Transfer => say(b"the transfer characteristics, a number from 0 to 255"),
+        Expected::Matrix => say(b"the matrix coefficients, a number from 0 to 255"),
+        Expected::RgbDepth => say(b"the RGB depth in bits, a number from 0 to 255"),
+        Expected::YDepth => say(b"the Y depth in bits, a number from 0 to 255"),
+        Expected::CDepth => say(b"the C depth in bits, a number from 0 to 255"),
+        Expected::RgbRange => say(b"full or narrow, for the RGB side"),
+        Expected::YccRange => say(b"full or narrow, for the YCbCr side"),
+        Expected::Red => say(b"the R sample, a number from 0 to 65535"),
+        Expected::Green => say(b"the G sample, a number from 0 to 65535"),
+        Expected::Blue => say(b"the B sample, a number from 0 to 65535"),
+        Expected::Luma => say(b"the Y sample, a number from 0 to 65535"),
+        Expected::Cb => say(b"the Cb sample, a number from 0 to 65535"),
+        Expected::Cr => say(b"the Cr sample, a number from 0 to 65535"),
+        Expected::KindOrLuma => say(b"y, cb or cr, or the Y sample from 0 to 65535"),
+        Expected::CodeKind => say(b"primaries, transfer or matrix"),
+        Expected::Code => say(b"a code, a number from 0 to 255"),
+        Expected::NoMore => say(b"no more words"),
     }
 }
 

@@ -13,7 +13,7 @@ use lib.Seq.{drop-cons}
 use Rattle.text.specs.Numerals.{valueOf, allDigits, numberOf}
 use Rattle.text.specs.declared.reading.Number.the-variants as number
 
-pub value-grows : (high : ℕ) (w : List ℕ) → high ≤ valueOf high w
+value-grows : (high : ℕ) (w : List ℕ) → high ≤ valueOf high w
 unfolding valueOf
 value-grows high [] = omega arith
 value-grows high (b ∷ w) = omega (arith, value-grows (high * 10 + (b - 48)) w)
@@ -58,7 +58,7 @@ module _ (w : List ℕ) (most : ℕ) where
       go true = rw e
       go false = refl
 
-  pub too-large : most < valueOf 0 w → number.Nothing ≡ numberOf w most
+  too-large : most < valueOf 0 w → number.Nothing ≡ numberOf w most
   unfolding numberOf
   too-large h = go (ltb 0 (length w)) (allDigits w)
     where
@@ -70,6 +70,13 @@ module _ (w : List ℕ) (most : ℕ) where
   pub is-number : (v : ℕ) → 0 < length w → allDigits w ≡ true → v ≡ valueOf 0 w → v ≤ most → number.Value v ≡ numberOf w most
   unfolding numberOf
   is-number v l d e h = rw (lt-ltb _ _ l, d, ← e, le-leb _ _ h)
+
+-- one digit more makes the number larger than `most`
+pub too-far : (w : List ℕ) (i high most : ℕ) → i < length w → valueOf high (drop i w) ≡ valueOf 0 w → most < high * 10 + (getD w i 0 - 48)
+    → number.Nothing ≡ numberOf w most
+too-far w i high most l e h =
+    let g = value-grows (high * 10 + (getD w i 0 - 48)) (drop (i + 1) w) in
+    too-large w most (omega (arith, value-step w i l high))
 
 -- a word that was read as a number is no larger than asked
 pub number-most : (w : List ℕ) (most v : ℕ) → numberOf w most ≡ number.Value v → v ≤ most

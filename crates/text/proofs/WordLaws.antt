@@ -4,14 +4,14 @@ use mathlib.Core.Bool.{Bool, true, false, true≢false, cond, _&&_}
 use mathlib.Core.List.{List, [], _∷_}
 use Prim.Native.Nat.{ℕ, suc, _+_, _-_, _≤_, _<_}
 use native.Mathlib.Decide.{decLt}
-use native.Mathlib.Nat.{add-zero, sub-self}
+use native.Mathlib.Nat.{add-zero}
 use native.Mathlib.Numerals.{add-one}
 use native.Mathlib.Omega.{arith}
 use borrow.Author.Tests.{eq-eqb, ne-eqb, eqb-true, lt-ltb, le-ltb}
-use lib.Dec.{eqb}
-use lib.ListN.{length, getD, take, drop, length-drop, drop-of-length-le, List·getD-eq-default}
+use lib.Dec.{eqb, ltb}
+use lib.ListN.{length, getD, take, drop, length-drop, drop-of-length-le}
 use lib.Seq.{drop-cons, drop-drop, getD-drop}
-use Rattle.text.specs.Words.{begun, split, before, endOf, sameWord, indexIn, Spans}
+use Rattle.text.specs.Words.{begun, split, wordOf, before, endOf, sameWord, indexIn, Next, Starts}
 
 -- the bytes before the first gap, one byte at a time
 before-gap : (gap b : ℕ) (s : List ℕ) → b ≡ gap → before gap (b ∷ s) ≡ 0
@@ -45,8 +45,8 @@ module _ (gap : ℕ) (s : List ℕ) where
   end-over i h = rw (drop-of-length-le s h) (omega arith)
 
   -- no further than the text's end, unless it began there
-  pub end-within : (i extra : ℕ) → i ≤ length s + extra → endOf gap s i ≤ length s + extra
-  end-within i extra h = omega (arith, before-most gap (drop i s), length-drop i s)
+  pub end-within : (i : ℕ) → i ≤ length s → endOf gap s i ≤ length s
+  end-within i h = omega (arith, before-most gap (drop i s), length-drop i s)
 
 -- the first word, and the words after it
 first-word : (gap b : ℕ) (s : List ℕ)
@@ -69,7 +69,7 @@ first-word gap b (c ∷ s) = go (eqb b gap) (first-word gap c s)
     go false e = ap (begun b) e
 
 module _ (gap : ℕ) (s : List ℕ) where
-  pub split-step : (at : ℕ) → at < length s
+  split-step : (at : ℕ) → at < length s
       → split gap (drop at s) ≡ take (endOf gap s at - at) (drop at s) ∷ split gap (drop (endOf gap s at + 1) s)
   split-step at h =
       let b = getD s at 0 in
@@ -79,42 +79,52 @@ module _ (gap : ℕ) (s : List ℕ) where
       let j : endOf gap s at + 1 ≡ at + suc (before gap (drop at s)) = omega arith in
       rw (k, j, ← drop-drop (suc (before gap (drop at s))) at s, l) (first-word gap b r)
 
-  pub split-over : (at : ℕ) → length s ≤ at → split gap (drop at s) ≡ []
+  split-over : (at : ℕ) → length s ≤ at → split gap (drop at s) ≡ []
   unfolding split
   split-over at h = rw (drop-of-length-le s h)
 
--- word i starts at `start` where the words from it on are all that is left of the words
-abbrev pub Starts : ℕ → List ℕ → ℕ → ℕ → Type 0
-Starts gap s i start = drop i (split gap s) ≡ split gap (drop start s)
+-- the word at a position
+module _ (gap : ℕ) (s : List ℕ) (at : ℕ) where
+  pub word-here : at < length s → take (endOf gap s at - at) (drop at s) ≡ wordOf gap (drop at s) 0
+  word-here h = rw (split-step gap s at h)
 
-module _ (gap : ℕ) (s : List ℕ) where
-  pub next-starts : (i start : ℕ) → Starts gap s i start → Starts gap s (i + 1) (endOf gap s start + 1)
-  next-starts i start e = go (decLt start (length s))
+  pub word-none : length s ≤ at → [] ≡ wordOf gap (drop at s) 0
+  word-none h = rw (split-over gap s at h)
+
+  words-from : at < length s → split gap (drop at s) ≡ wordOf gap (drop at s) 0 ∷ drop 1 (split gap (drop at s))
+  words-from h = rw (split-step gap s at h)
+
+-- the words after it
+module _ (gap : ℕ) (s : List ℕ) (at : ℕ) where
+  pub next-word : endOf gap s at < length s → Next gap s at (endOf gap s at + 1)
+  next-word h = record { rest = rw (split-step gap s at (omega arith)); within = omega arith; onward = λ l. omega arith }
+
+  pub next-none : length s ≤ endOf gap s at → Next gap s at (length s)
+  next-none h = record { rest = go (decLt at (length s)); within = omega arith; onward = λ l. omega arith }
     where
-      go : Dec (start < length s) → Starts gap s (i + 1) (endOf gap s start + 1)
-      go (yes h) = rw (← drop-drop 1 i (split gap s), e, split-step gap s start h)
+      go : Dec (at < length s) → split gap (drop (length s) s) ≡ drop 1 (split gap (drop at s))
+      go (yes l) = rw (split-over gap s (length s) (omega arith), split-step gap s at l, split-over gap s (endOf gap s at + 1) (omega arith))
+      go (no f) = rw (split-over gap s (length s) (omega arith), split-over gap s at (omega arith))
+
+-- words counted from the front
+module _ (gap : ℕ) (s : List ℕ) (n start : ℕ) (e : Starts gap s n start) where
+  pub next-starts : (next : ℕ) → Next gap s start next → Starts gap s (n + 1) next
+  next-starts next f = f .rest ∙ ap (drop 1) e ∙ drop-drop 1 n (split gap s)
+
+  pub starts-word : wordOf gap (drop start s) 0 ≡ wordOf gap s n
+  starts-word = ap (λ (l : List (List ℕ)). getD l 0 []) e ∙ getD-drop n (split gap s) 0 [] ∙ rw (add-zero n)
+
+  pub starts-there : ltb start (length s) ≡ ltb n (length (split gap s))
+  starts-there = go (decLt start (length s))
+    where
+      left : length (split gap (drop start s)) ≡ length (split gap s) - n
+      left = ap length e ∙ length-drop n (split gap s)
+
+      go : Dec (start < length s) → ltb start (length s) ≡ ltb n (length (split gap s))
+      go (yes h) = lt-ltb _ _ h ∙ sym (lt-ltb n (length (split gap s)) (omega (arith, left, ap length (split-step gap s start h))))
       go (no f) =
           let h : length s ≤ start = omega arith in
-          rw (← drop-drop 1 i (split gap s), e, split-over gap s start h, split-over gap s (endOf gap s start + 1) (omega arith))
-
-  pub spans-word : (n start : ℕ) → Starts gap s n start → start < length s → Spans gap s n start (endOf gap s start)
-  spans-word n start e h =
-      record {
-        ordered = omega arith;
-        within = let h = end-within gap s start 0 (omega arith) in omega arith;
-        is = ap (λ (l : List (List ℕ)). getD l 0 []) (sym (split-step gap s start h) ∙ sym e) ∙ getD-drop n (split gap s) 0 [] ∙ rw (add-zero n);
-        there = lt-ltb start (length s) h ∙ sym (lt-ltb n (length (split gap s)) (omega (arith, ap length (e ∙ split-step gap s start h), length-drop n (split gap s))));
-      }
-
-  pub spans-none : (n start : ℕ) → Starts gap s n start → length s ≤ start → Spans gap s n (length s) (length s)
-  spans-none n start e h =
-      let l : length (split gap s) ≤ n = omega (arith, ap length (e ∙ split-over gap s start h), length-drop n (split gap s)) in
-      record {
-        ordered = omega arith;
-        within = omega arith;
-        is = rw (sub-self (length s)) (sym (List·getD-eq-default (split gap s) [] l));
-        there = le-ltb (length s) (length s) (omega arith) ∙ sym (le-ltb n (length (split gap s)) l);
-      }
+          le-ltb _ _ h ∙ sym (le-ltb n (length (split gap s)) (omega (arith, left, ap length (split-over gap s start h))))
 
 -- equal words
 same-self : (w : List ℕ) → sameWord w w ≡ true
@@ -142,17 +152,16 @@ same-is v w false f g = go (sameWord v w) refl
     go false e = sym e
 
 -- the place of a word among words found one after the other
-module _ (names w : List ℕ) where
-  pub place-here : (at : ℕ) → at < length names → sameWord w (take (endOf 32 names at - at) (drop at names)) ≡ true
-      → indexIn w (split 32 (drop at names)) ≡ 0
+module _ (names w : List ℕ) (at : ℕ) where
+  pub place-here : at < length names → sameWord w (wordOf 32 (drop at names) 0) ≡ true → indexIn w (split 32 (drop at names)) ≡ 0
   unfolding indexIn
-  place-here at h e = rw (split-step 32 names at h, e)
+  place-here h e = rw (words-from 32 names at h, e)
 
-  pub place-on : (at : ℕ) → at < length names → sameWord w (take (endOf 32 names at - at) (drop at names)) ≡ false
-      → indexIn w (split 32 (drop at names)) ≡ suc (indexIn w (split 32 (drop (endOf 32 names at + 1) names)))
+  pub place-on : (next : ℕ) → at < length names → sameWord w (wordOf 32 (drop at names) 0) ≡ false → Next 32 names at next
+      → indexIn w (split 32 (drop at names)) ≡ suc (indexIn w (split 32 (drop next names)))
   unfolding indexIn
-  place-on at h e = rw (split-step 32 names at h, e)
+  place-on next h e f = rw (f .rest, words-from 32 names at h, e)
 
-  pub place-over : (at : ℕ) → length names ≤ at → indexIn w (split 32 (drop at names)) ≡ 0
+  pub place-over : length names ≤ at → indexIn w (split 32 (drop at names)) ≡ 0
   unfolding indexIn
-  place-over at h = rw (split-over 32 names at h)
+  place-over h = rw (split-over 32 names at h)

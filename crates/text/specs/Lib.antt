@@ -1,5 +1,4 @@
 -- Texts as lists of bytes: words in them, numbers, and what writing leaves in a buffer.
-pub mod Ascii
 pub mod Words
 pub mod Numerals
 pub mod Writing

@@ -2,9 +2,9 @@
 use mathlib.Core.Path.{_≡_}
 use mathlib.Core.Bool.{Bool, true, false, cond, _&&_}
 use mathlib.Core.List.{List, [], _∷_}
-use Prim.Native.Nat.{ℕ, suc, _+_, _-_, _≤_}
-use lib.Dec.{eqb, ltb}
-use lib.ListN.{length, getD, take, drop}
+use Prim.Native.Nat.{ℕ, suc, _+_, _≤_, _<_}
+use lib.Dec.{eqb}
+use lib.ListN.{length, getD, drop}
 
 -- a byte in front of the first word
 abbrev pub begun : ℕ → List (List ℕ) → List (List ℕ)
@@ -40,9 +40,12 @@ unfoldable pub indexIn : List ℕ → List (List ℕ) → ℕ
 indexIn w [] = 0
 indexIn w (v ∷ vs) = cond (sameWord w v) 0 (suc (indexIn w vs))
 
--- word n stands from start to end; where there is none, both are the text's end
-pub record Spans (gap : ℕ) (s : List ℕ) (n start end : ℕ) : Type 0 where
-  pub ordered : start ≤ end
-  pub within : end ≤ length s
-  pub is : take (end - start) (drop start s) ≡ wordOf gap s n
-  pub there : ltb start (length s) ≡ ltb n (length (split gap s))
+-- the words from `next` on are those from `at` on but the first
+pub record Next (gap : ℕ) (s : List ℕ) (at next : ℕ) : Type 0 where
+  pub rest : split gap (drop next s) ≡ drop 1 (split gap (drop at s))
+  pub within : next ≤ length s
+  pub onward : at < length s → at < next
+
+-- the words from `start` on are those of the text from word n on
+abbrev pub Starts : ℕ → List ℕ → ℕ → ℕ → Type 0
+Starts gap s n start = split gap (drop start s) ≡ drop n (split gap s)

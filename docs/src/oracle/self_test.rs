@@ -45,7 +45,7 @@ pub fn run() -> Result<String, String> {
 }
 
 /// How many bytes of cases the proved programs take: `room` in
-/// crates/cases/src/lib.rt. They would not see what goes beyond.
+/// crates/case_lines/src/lib.rt. They would not see what goes beyond.
 const ROOM: usize = 1_000_000;
 
 /// How the first lines of frame answers start; the place of 10 by its plane.

@@ -7,13 +7,15 @@ use Rattle.cork.proofs.word.Tie as tie
 
 returns : tie.Need-returns
 returns c =
-    let e = inside (c .before .before .before .before .before .before .before .put .ensures) (c .before .before .before .before .before .before .before .before .before .before .before .before .before .before .before .before .pre) in
+    let p = c .before .before .before .before .before .before .before in
+    let e = inside (p .put .ensures) (p .before .before .before .before .before .before .before .before .before .pre) in
     let f = inside (c .before .before .put2 .ensures) (omega arith) in
     omega arith
 
 returns-2 : tie.Need-returns-2
 returns-2 c =
-    let e = inside (c .before .before .before .before .before .before .before .put3 .ensures) (c .before .before .before .before .before .before .before .before .before .before .before .before .before .before .before .pre) in
+    let p = c .before .before .before .before .before .before .before in
+    let e = inside (p .put3 .ensures) (p .before .before .before .before .before .before .before .before .pre) in
     let f = inside (c .before .before .put4 .ensures) (omega arith) in
     omega arith
 

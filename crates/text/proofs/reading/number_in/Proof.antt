@@ -1,11 +1,11 @@
 -- `text::reading::number_in` meets its contract: what is read so far and what is left make up the word's number.
 use mathlib.Core.Path.{_≡_, refl, sym, _∙_}
-use Prim.Native.Nat.{_+_, _-_, _*_, _≤_}
+use Prim.Native.Nat.{_-_, _≤_}
 use native.Mathlib.Omega.{arith}
 use denote.Ref.{now}
-use lib.ListN.{length, drop, getD}
+use lib.ListN.{length, drop}
 use Rattle.text.specs.Numerals.{valueOf, allDigits}
-use Rattle.text.proofs.NumeralLaws.{value-grows, value-step, digits-step, digits-below, digits-above, value-end, digits-end, no-digits, no-digit, too-large, is-number}
+use Rattle.text.proofs.NumeralLaws.{value-step, digits-step, digits-below, digits-above, value-end, digits-end, no-digits, no-digit, too-far, is-number}
 use borrow.Author.Needs.{needs}
 use Rattle.text.proofs.reading.number_in.Statement.{statement}
 use Rattle.text.proofs.reading.number_in.Tie as tie
@@ -35,19 +35,18 @@ returns-3 c =
     no-digit _ _ (sym (l .inv .4) ∙ digits-above _ (l .i) (omega arith) (omega arith))
 
 returns-4 : tie.Need-returns-4 Inv-loop μ-loop
-returns-4 c =
-    let a = c .before .before .before .before .before .before .before .args in
-    let l = c .before .before .before .before .before .loop in
-    too-large (now (a .word)) _
-    (let s = value-step (now (a .word)) (l .i) (omega arith) (l .value) in
-    let g = value-grows (l .value * 10 + (getD (now (a .word)) (l .i) 0 - 48)) (drop (l .i + 1) (now (a .word))) in
-    let e = l .inv .3 in
-    omega arith)
+returns-4 c = let l = c .before .before .before .before .before .loop in too-far _ (l .i) (l .value) _ (omega arith) (l .inv .3) (omega arith)
+
+sub-if5 : tie.Need-sub-if5 Inv-loop μ-loop
+sub-if5 c = omega arith
+
+returns-5 : tie.Need-returns-5 Inv-loop μ-loop
+returns-5 c = let l = c .before .before .before .before .before .before .loop in too-far _ (l .i) (l .value) _ (omega arith) (l .inv .3) (omega arith)
 
 loop-again : tie.Need-loop-again Inv-loop μ-loop
 loop-again c =
-    let a = c .before .before .before .before .before .before .before .args in
-    let l = c .before .before .before .before .before .loop in (
+    let a = c .before .before .before .before .before .before .before .before .args in
+    let l = c .before .before .before .before .before .before .loop in (
       omega arith,
       l .inv .1,
       omega arith,
@@ -55,8 +54,8 @@ loop-again c =
       sym (digits-step (now (a .word)) (l .i) (omega arith) (omega arith) (omega arith)) ∙ l .inv .4,
     )
 
-returns-5 : tie.Need-returns-5 Inv-loop μ-loop
-returns-5 c =
+returns-6 : tie.Need-returns-6 Inv-loop μ-loop
+returns-6 c =
     let a = c .before .before .before .args in
     let l = c .before .loop in
     is-number (now (a .word)) _ (l .value) (omega arith)
@@ -76,11 +75,12 @@ number-in-spec =
     returns-2
     returns-3
     (λ c. search needs)
-    (λ c. search needs)
-    (λ c. search needs)
     returns-4
+    (λ c. search needs)
+    sub-if5
+    returns-5
+    (λ c. search needs)
     (λ c. search needs)
     (λ c. search needs)
     loop-again
-    (λ c. search needs)
-    returns-5)
+    returns-6)

@@ -1,0 +1,28 @@
+-- `case_lines::say::plane` ends at the last sample.
+use Prim.Native.Nat.{_≤_, _-_}
+use borrow.Author.Needs.{needs}
+use lib.ListN.{length}
+use Rattle.case_lines.proofs.say.plane.Statement.{statement}
+use Rattle.case_lines.proofs.say.plane.Tie as tie
+
+abbrev Inv-loop : tie.InvT-loop
+Inv-loop p i₀ i = i ≤ length p
+
+abbrev μ-loop : tie.MeasureT-loop
+μ-loop p i₀ i = length p - i
+
+pub plane-spec : {M : Type 1} → statement M
+plane-spec =
+    tie.close
+    (tie.spec
+    Inv-loop
+    μ-loop
+    (λ c. search needs)
+    (λ c. search needs)
+    (λ c. search needs)
+    (λ c κs. search needs)
+    (λ c. search needs)
+    (λ c. search needs)
+    (λ c. search needs)
+    (λ c κs. search needs)
+    (λ c. search needs))

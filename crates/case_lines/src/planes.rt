@@ -1,0 +1,224 @@
+// Cases on whole frames and on images. Word 9 and those after it are the sizes; then come the planes, which are long, so they are read
+// forward from where they start, and not word by number.
+ghost use Prim.Native.Nat.{_≤_};
+ghost use lib.ListN.{length};
+use crate::GAP;
+use crate::RANGES;
+use crate::say;
+use corkplover::frames;
+use frame::FrameAnswer;
+use frame::Size;
+use request::form;
+use request::form::ReadNumber;
+use setting::Call;
+use setting::Setting;
+use text::reading;
+use text::reading::Number;
+
+// The longest plane that there is room for.
+const ROOM: usize = 20000;
+
+// No position of a line: reading stopped at a word that is no number, or too large a one.
+const STOPPED: usize = 18446744073709551615;
+
+// A number, and the position after it.
+struct Step {
+    value: u64,
+    next: usize,
+}
+
+struct ReadPlane {
+    length: usize,
+    next: usize,
+}
+
+fn next_number(line: &[u8], at: usize, most: u64) -> Step
+    ensures { λ r. ⌜ r .value ≤ most ⌝ }
+{
+    match reading::number_from(line, GAP, at, most) {
+        Number::Value(value) => Step {
+            value,
+            next: reading::next_of(line, GAP, at),
+        },
+        Number::Nothing => Step {
+            value: 0,
+            next: STOPPED,
+        },
+    }
+}
+
+// A plane: its length and then its elements.
+fn plane(line: &[u8], at: usize, out: &mut [u16]) -> ReadPlane
+    ensures { λ r. ⌜ r .length ≤ length (now (out .entry)) ⌝ }
+{
+    let count = next_number(line, at, out.len() as u64);
+    let length = count.value as usize;
+    let mut next = count.next;
+    let mut i: usize = 0;
+    while i < length {
+        let one = next_number(line, next, 65535);
+        out[i] = one.value as u16;
+        next = one.next;
+        i += 1;
+    }
+    ReadPlane { length, next }
+}
+
+// A width, a height or a stride.
+fn size_at(line: &[u8], n: u8, fault: u8) -> ReadNumber {
+    form::number_word(line, GAP, n, 18446744073709551615, fault)
+}
+
+// Old contents, which must never show.
+fn old_contents(fill: u64, out: &mut [u16]) {
+    let mut v = fill % 65536;
+    let mut i: usize = 0;
+    while i < out.len() {
+        out[i] = (v % 65536) as u16;
+        v = (v + 7919) % 65536;
+        i += 1;
+    }
+}
+
+fn convert(
+    forward: bool,
+    s: Setting,
+    z: Size,
+    a0: &[u16],
+    a1: &[u16],
+    a2: &[u16],
+    b0: &mut [u16],
+    b1: &mut [u16],
+    b2: &mut [u16],
+) -> FrameAnswer {
+    if forward {
+        return frames::forward_frame(s, z, a0, a1, a2, b0, b1, b2);
+    }
+    frames::reverse_frame(s, z, a0, a1, a2, b0, b1, b2)
+}
+
+fn convert_and_say(
+    forward: bool,
+    s: Setting,
+    z: Size,
+    a0: &[u16],
+    a1: &[u16],
+    a2: &[u16],
+    b0: &mut [u16],
+    b1: &mut [u16],
+    b2: &mut [u16],
+) {
+    say::frame(convert(forward, s, z, a0, a1, a2, b0, b1, b2));
+    say::plane(b0);
+    say::plane(b1);
+    say::plane(b2);
+}
+
+// Output planes of the lengths that the line ends with, full of old contents.
+fn convert_into(
+    line: &[u8],
+    at: usize,
+    forward: bool,
+    s: Setting,
+    z: Size,
+    a0: &[u16],
+    a1: &[u16],
+    a2: &[u16],
+) {
+    let n0 = next_number(line, at, ROOM as u64);
+    let n1 = next_number(line, n0.next, ROOM as u64);
+    let n2 = next_number(line, n1.next, ROOM as u64);
+    let fill = next_number(line, n2.next, 65535);
+    if fill.next != line.len() {
+        say::bad_line();
+        return;
+    }
+    let mut b0 = [0u16; ROOM];
+    let mut b1 = [0u16; ROOM];
+    let mut b2 = [0u16; ROOM];
+    old_contents(fill.value, &mut b0);
+    old_contents(fill.value, &mut b1);
+    old_contents(fill.value, &mut b2);
+    let l0 = n0.value as usize;
+    let l1 = n1.value as usize;
+    let l2 = n2.value as usize;
+    convert_and_say(
+        forward,
+        s,
+        z,
+        a0,
+        a1,
+        a2,
+        &mut b0[..l0],
+        &mut b1[..l1],
+        &mut b2[..l2],
+    );
+}
+
+fn on_frame(line: &[u8], at: usize, forward: bool, a0: &[u16], a1: &[u16], a2: &[u16]) {
+    let w = form::setting_words(line, GAP, &RANGES);
+    let width = size_at(line, 9, w.fault);
+    let height = size_at(line, 10, width.fault);
+    let source_stride = size_at(line, 11, height.fault);
+    let output_stride = size_at(line, 12, source_stride.fault);
+    if output_stride.fault != form::CLEAR {
+        say::bad_line();
+        return;
+    }
+    let s = w.setting;
+    let z = Size {
+        width: width.value as usize,
+        height: height.value as usize,
+        source_stride: source_stride.value as usize,
+        output_stride: output_stride.value as usize,
+    };
+    convert_into(line, at, forward, s, z, a0, a1, a2);
+}
+
+fn on_image(line: &[u8], at: usize, a0: &[u16], a1: &[u16], a2: &[u16]) {
+    let w = form::setting_words(line, GAP, &RANGES);
+    let width = size_at(line, 9, w.fault);
+    let height = size_at(line, 10, width.fault);
+    let stride = size_at(line, 11, height.fault);
+    if stride.fault != form::CLEAR {
+        say::bad_line();
+        return;
+    }
+    if at != line.len() {
+        say::bad_line();
+        return;
+    }
+    say::image(frames::image_check(
+        w.setting,
+        width.value as usize,
+        height.value as usize,
+        stride.value as usize,
+        a0,
+        a1,
+        a2,
+    ));
+}
+
+fn on_planes(line: &[u8], at: usize, call: Call, a0: &[u16], a1: &[u16], a2: &[u16]) {
+    match call {
+        Call::Forward => on_frame(line, at, true, a0, a1, a2),
+        Call::Reverse => on_frame(line, at, false, a0, a1, a2),
+        Call::ImageCheck => on_image(line, at, a0, a1, a2),
+        // no line meters a picture
+        Call::Meter => say::bad_line(),
+    }
+}
+
+// A line on a picture: three planes, from word `first` on.
+pub fn on_picture(line: &[u8], call: Call, first: u8) {
+    let mut a0 = [0u16; ROOM];
+    let mut a1 = [0u16; ROOM];
+    let mut a2 = [0u16; ROOM];
+    let p0 = plane(line, reading::start_of(line, GAP, first), &mut a0);
+    let p1 = plane(line, p0.next, &mut a1);
+    let p2 = plane(line, p1.next, &mut a2);
+    let l0 = p0.length;
+    let l1 = p1.length;
+    let l2 = p2.length;
+    on_planes(line, p2.next, call, &a0[..l0], &a1[..l1], &a2[..l2]);
+}

@@ -1,2 +1,0 @@
--- Laws of the desk.
-pub mod LevelLaws

@@ -1,0 +1,43 @@
+-- `request::form::setting_words` meets its contract: word by word.
+use native.Mathlib.Omega.{arith}
+use Rattle.request.specs.Form.{settingWords}
+use borrow.Author.Needs.{needs}
+use Rattle.request.proofs.form.setting_words.Statement.{statement}
+use Rattle.request.proofs.form.setting_words.Tie as tie
+
+cast-t13 : tie.Need-cast-t13
+cast-t13 c = omega (arith, c .before .before .before .before .before .before .before .before .number-word .ensures .1)
+
+returns : tie.Need-returns
+unfolding settingWords
+returns c =
+    rw (
+      c .before .before .before .before .before .before .before .before .range-word2 .ensures,
+      c .before .before .before .before .before .before .before .before .before .range-word .ensures,
+      c .before .before .before .before .before .before .before .before .before .before .number-word6 .ensures .0,
+      c .before .before .before .before .before .before .before .before .before .before .before .number-word5 .ensures .0,
+      c .before .before .before .before .before .before .before .before .before .before .before .before .number-word4 .ensures .0,
+      c .before .before .before .before .before .before .before .before .before .before .before .before .before .number-word3 .ensures .0,
+      c .before .before .before .before .before .before .before .before .before .before .before .before .before .before .number-word2 .ensures .0,
+      c .before .before .before .before .before .before .before .before .before .before .before .before .before .before .before .number-word .ensures .0,
+    )
+
+pub setting-words-spec : {M : Type 1} → statement M
+setting-words-spec =
+    tie.close
+    (tie.spec
+    (λ c κs. search needs)
+    (λ c κs. search needs)
+    (λ c κs. search needs)
+    (λ c κs. search needs)
+    (λ c κs. search needs)
+    (λ c κs. search needs)
+    (λ c κs. search needs)
+    (λ c κs. search needs)
+    cast-t13
+    (λ c. search needs)
+    (λ c. search needs)
+    (λ c. search needs)
+    (λ c. search needs)
+    (λ c. search needs)
+    returns)

@@ -1,0 +1,59 @@
+-- The box's answer to a request: what its entry point answers, with a level as its bits.
+use mathlib.Core.Bool.{true, false}
+use Prim.Native.Nat.{ℕ}
+use lib.Ieee.{binary32, toBits}
+use Rattle.sample.specs.declared.Pixel.{Pixel}
+use Rattle.setting.specs.Label.{primariesLabel, transferLabel, matrixLabel}
+use Rattle.setting.specs.declared.Call.{Call}
+use Rattle.setting.specs.declared.Call.the-variants as call
+use Rattle.setting.specs.declared.Setting.{Setting}
+use Rattle.setting.specs.declared.label.Label.{Label}
+use Rattle.pixel.specs.declared.Way.the-variants.{Forward, Reverse}
+use Rattle.corkplover.specs.Answers.{pixelAnswer, sourceAnswer, reading, levelsAnswer}
+use Rattle.corkplover.specs.declared.pixels.PixelAnswer.{PixelAnswer}
+use Rattle.corkplover.specs.declared.pixels.PixelAnswer.the-variants as pixel
+use Rattle.corkplover.specs.declared.pixels.SourceAnswer.{SourceAnswer}
+use Rattle.corkplover.specs.declared.pixels.SourceAnswer.the-variants as source
+use Rattle.corkplover.specs.declared.meters.Reading.{Reading}
+use Rattle.corkplover.specs.declared.meters.Reading.the-variants as meter
+use Rattle.corkplover.specs.declared.meters.LevelsAnswer.{LevelsAnswer}
+use Rattle.corkplover.specs.declared.meters.LevelsAnswer.the-variants as levels
+use Rattle.request.specs.declared.CodeKind.{CodeKind}
+use Rattle.request.specs.declared.CodeKind.the-variants.{Primaries, Transfer, Matrix}
+use Rattle.request.specs.declared.Request.{Request}
+use Rattle.request.specs.declared.Request.the-variants as request
+use Rattle.request.specs.declared.ask.Answer.{Answer}
+use Rattle.request.specs.declared.ask.Answer.the-variants.{Samples, Source, Level, Levels, Label as Labelled, Refused}
+
+abbrev pub ofPixel : PixelAnswer → Answer
+ofPixel (pixel.Converted p) = Samples p
+ofPixel (pixel.Refused r) = Refused r
+
+abbrev pub ofSource : SourceAnswer → Answer
+ofSource source.Yes = Source true
+ofSource source.NoSource = Source false
+ofSource (source.Refused r) = Refused r
+
+abbrev pub ofReading : Reading → Answer
+ofReading (meter.Level x) = Level (toBits binary32 x)
+ofReading (meter.Refused r) = Refused r
+
+abbrev pub ofLevels : LevelsAnswer → Answer
+ofLevels (levels.Levels l) = Levels (toBits binary32 (l .y)) (toBits binary32 (l .cb)) (toBits binary32 (l .cr))
+ofLevels (levels.Refused r) = Refused r
+
+abbrev pub askPixel : Call → Setting → Pixel → Answer
+askPixel call.Forward s p = ofPixel (pixelAnswer Forward s p)
+askPixel call.Reverse s p = ofPixel (pixelAnswer Reverse s p)
+askPixel call.Meter s p = ofLevels (levelsAnswer s p)
+askPixel call.ImageCheck s p = ofSource (sourceAnswer s p)
+
+abbrev pub labelFor : CodeKind → ℕ → Label
+labelFor Primaries code = primariesLabel code
+labelFor Transfer code = transferLabel code
+labelFor Matrix code = matrixLabel code
+
+unfoldable pub answerTo : Request → Answer
+answerTo (request.Pixel c s p) = askPixel c s p
+answerTo (request.Sample k s v) = ofReading (reading k s v)
+answerTo (request.Label k code) = Labelled (labelFor k code)

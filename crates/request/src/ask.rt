@@ -1,0 +1,100 @@
+// Every request is passed on to its entry point, and the answers come back as one type. A level is handed on as its bits.
+ghost use mathlib.Core.Path.{_≡_};
+ghost use Rattle.corkplover.specs.Answers.{reading, levelsAnswer};
+ghost use Rattle.request.specs.Answers.{ofPixel, ofSource, ofReading, ofLevels, askPixel, labelFor, answerTo};
+use crate::CodeKind;
+use crate::Request;
+use corkplover::labels;
+use corkplover::meters;
+use corkplover::meters::LevelsAnswer;
+use corkplover::meters::Reading;
+use corkplover::pixels;
+use corkplover::pixels::PixelAnswer;
+use corkplover::pixels::SourceAnswer;
+use meter::SampleKind;
+use refusal::Refusal;
+use sample::Pixel;
+use setting::Call;
+use setting::Setting;
+use setting::label::Label;
+
+pub enum Answer {
+    Samples(Pixel),
+    Source(bool),
+    Level(u32),
+    Levels(u32, u32, u32),
+    Label(Label),
+    Refused(Refusal),
+}
+
+fn of_pixel(a: PixelAnswer) -> Answer
+    ensures { λ r. ⌜ r ≡ ofPixel a ⌝ }
+{
+    match a {
+        PixelAnswer::Converted(p) => Answer::Samples(p),
+        PixelAnswer::Refused(refusal) => Answer::Refused(refusal),
+    }
+}
+
+fn of_source(a: SourceAnswer) -> Answer
+    ensures { λ r. ⌜ r ≡ ofSource a ⌝ }
+{
+    match a {
+        SourceAnswer::Yes => Answer::Source(true),
+        SourceAnswer::NoSource => Answer::Source(false),
+        SourceAnswer::Refused(refusal) => Answer::Refused(refusal),
+    }
+}
+
+fn ask_sample(kind: SampleKind, s: Setting, v: u16) -> Answer
+    ensures { λ r. ⌜ r ≡ ofReading (reading kind s v) ⌝ }
+{
+    match meters::meter_sample(kind, s, v) {
+        Reading::Level(x) => Answer::Level(f32::to_bits(x)),
+        Reading::Refused(refusal) => Answer::Refused(refusal),
+    }
+}
+
+fn ask_levels(s: Setting, p: Pixel) -> Answer
+    ensures { λ r. ⌜ r ≡ ofLevels (levelsAnswer s p) ⌝ }
+{
+    match meters::meter_pixel(s, p) {
+        LevelsAnswer::Levels(l) => Answer::Levels(
+            f32::to_bits(l.y),
+            f32::to_bits(l.cb),
+            f32::to_bits(l.cr),
+        ),
+        LevelsAnswer::Refused(refusal) => Answer::Refused(refusal),
+    }
+}
+
+fn ask_pixel(call: Call, s: Setting, p: Pixel) -> Answer
+    ensures { λ r. ⌜ r ≡ askPixel call s p ⌝ }
+{
+    match call {
+        Call::Forward => of_pixel(pixels::forward_pixel(s, p)),
+        Call::Reverse => of_pixel(pixels::reverse_pixel(s, p)),
+        Call::Meter => ask_levels(s, p),
+        Call::ImageCheck => of_source(pixels::source_pixel(s, p)),
+    }
+}
+
+fn label_of(kind: CodeKind, code: u8) -> Label
+    ensures { λ r. ⌜ r ≡ labelFor kind code ⌝ }
+{
+    match kind {
+        CodeKind::Primaries => labels::primaries_label(code),
+        CodeKind::Transfer => labels::transfer_label(code),
+        CodeKind::Matrix => labels::matrix_label(code),
+    }
+}
+
+pub fn ask(request: Request) -> Answer
+    ensures { λ r. ⌜ r ≡ answerTo request ⌝ }
+{
+    match request {
+        Request::Pixel(call, s, p) => ask_pixel(call, s, p),
+        Request::Sample(kind, s, v) => ask_sample(kind, s, v),
+        Request::Label(kind, code) => Answer::Label(label_of(kind, code)),
+    }
+}
