@@ -1,5 +1,5 @@
 -- What is known of a call that no rule refused: its setting is ready, its sizes fit, and every sample is within its depth.
-use mathlib.Core.Path.{_≡_, sym, _∙_}
+use mathlib.Core.Path.{_≡_, sym, subst, _∙_}
 use mathlib.Core.Bool.{true≢false}
 use mathlib.Core.List.{List, [], _∷_}
 use mathlib.Core.Logic.{_↔_}
@@ -14,10 +14,12 @@ use Rattle.sample.specs.declared.Side.the-variants.{Rgb, Ycc}
 use Rattle.refusal.specs.Rules.{Rule, first}
 use Rattle.refusal.specs.declared.Check.the-variants.{Passed}
 use Rattle.refusal.proofs.RuleLaws.{neither}
+use Rattle.meter.specs.declared.SampleKind.{SampleKind}
 use Rattle.setting.specs.Call.{reads}
 use Rattle.setting.specs.Ready.{Ready}
 use Rattle.setting.specs.Rules.{depths, served, settingRules}
 use Rattle.setting.specs.declared.Call.{Call}
+use Rattle.setting.specs.declared.Call.the-variants as call
 use Rattle.setting.specs.declared.Setting.{Setting}
 use Rattle.setting.specs.declared.admission.Admission.the-variants as admission
 use Rattle.setting.specs.declared.admission.Served.{Served}
@@ -30,7 +32,7 @@ use Rattle.planes.specs.declared.search.Found.the-variants.{At, Nothing}
 use Rattle.planes.specs.declared.size.Layout.{Layout}
 use Rattle.planes.proofs.SearchTheorems.{nothing-in-pixels-means}
 use Rattle.planes.proofs.SizeTheorems.{fits}
-use Rattle.admit.specs.Rules.{callAdmission, beyondDepth, pictureAdmission}
+use Rattle.admit.specs.Rules.{callAdmission, beyondDepth, pixelPicture, pixelAdmission, sampleAdmission}
 use Rattle.admit.proofs.AdmitLaws.{told-served, in-turn, by-sample}
 
 -- no rule applies
@@ -91,3 +93,21 @@ module _ (call : Call) (s : Setting) (a : Picture) (others : List Layout) where
 
     pub pixels-inside : EveryPixel (InsideOf (reads call) (depths s)) a
     pixels-inside = inside-exactly (reads call) (depths s) a .0 (k .samples)
+
+-- of a call on a pixel
+pub record LetIn (side : Side) (p : Pixel) (x : Served) : Type 0 where
+  pub is-ready : Ready x
+  pub inside : InsideOf side (x .depths) p
+
+pub let-in : (call : Call) (s : Setting) (p : Pixel) (x : Served) → pixelAdmission call s p ≡ admission.Served x → LetIn (reads call) p x
+let-in call s p x e =
+    let k = accepted-of call s [] _ x e in
+    subst (LetIn (reads call) p) (k .1)
+    (record {
+      is-ready = ready call s (k .0 .setting);
+      inside = inside-exactly (reads call) (depths s) (pixelPicture p) .0 (k .0 .samples) 0 0 (omega arith) (omega arith);
+    })
+
+-- and of the meter's on one sample
+pub one-ready : (k : SampleKind) (s : Setting) (v : ℕ) (x : Served) → sampleAdmission k s v ≡ admission.Served x → Ready x
+one-ready k s v x e = let t = accepted-of call.Meter s [] _ x e in subst Ready (t .1) (ready call.Meter s (t .0 .setting))

@@ -4,8 +4,8 @@ use mathlib.Core.List.{List}
 use Prim.Native.Nat.{ℕ}
 use lib.ListN.{length}
 use Rattle.setting.specs.declared.Setting.{Setting}
-use Rattle.pixel.specs.declared.Way.{Way}
-use Rattle.frame.specs.Frame.{sourceOf, outputOf, frameAnswer, outPlane}
+use Rattle.setting.specs.declared.Way.{Way}
+use Rattle.frame.specs.Frame.{inputPicture, outputLayout, frameAnswer, outPlane}
 use Rattle.frame.specs.declared.Size.{Size}
 use Rattle.frame.specs.declared.FrameAnswer.{FrameAnswer}
 use Rattle.corkplover.specs.Packing.{packedFrame}
@@ -13,10 +13,10 @@ use Rattle.corkplover.specs.Packing.{packedFrame}
 -- a call that reads the planes a, and writes planes as long as the planes b were
 module _ (w : Way) (a0 a1 a2 b0 b1 b2 : List ℕ) where
   abbrev answer : Setting → Size → FrameAnswer
-  answer s z = frameAnswer w s (sourceOf z a0 a1 a2) (outputOf z (length b0) (length b1) (length b2))
+  answer s z = frameAnswer w s (inputPicture z a0 a1 a2) (outputLayout z (length b0) (length b1) (length b2))
 
   abbrev plane : ℕ → Setting → Size → List ℕ
-  plane k s z = outPlane k w s (sourceOf z a0 a1 a2) (outputOf z (length b0) (length b1) (length b2))
+  plane k s z = outPlane k w s (inputPicture z a0 a1 a2) (outputLayout z (length b0) (length b1) (length b2))
 
   abbrev Left : List ℕ → List ℕ → List ℕ → Setting → Size → Type 0
   Left y0 y1 y2 s z = (y0 ≡ plane 0 s z) × ((y1 ≡ plane 1 s z) × (y2 ≡ plane 2 s z))

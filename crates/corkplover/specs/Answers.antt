@@ -4,15 +4,14 @@ use Prim.Native.Nat.{ℕ}
 use Rattle.sample.specs.declared.Pixel.{Pixel}
 use Rattle.setting.specs.declared.Call.the-variants as call
 use Rattle.setting.specs.declared.Setting.{Setting}
-use Rattle.setting.specs.declared.verdict.Verdict.{Verdict}
-use Rattle.setting.specs.declared.verdict.Verdict.the-variants as verdict
+use Rattle.setting.specs.declared.admission.Admission.{Admission}
+use Rattle.setting.specs.declared.admission.Admission.the-variants as admission
 use Rattle.meter.specs.Level.{levelOf, levelsOf}
 use Rattle.meter.specs.declared.SampleKind.{SampleKind}
-use Rattle.pixel.specs.Pixel.{convert, callOf}
-use Rattle.pixel.specs.Source.{hasSource}
-use Rattle.pixel.specs.declared.Way.{Way}
-use Rattle.pixel.specs.declared.Way.the-variants.{Reverse}
-use Rattle.corkplover.specs.Admit.{admitted, admittedOne}
+use Rattle.plan.specs.Conversion.{convert}
+use Rattle.plan.specs.Source.{hasSource}
+use Rattle.setting.specs.declared.Way.{Way}
+use Rattle.admit.specs.Rules.{pixelAdmission, sampleAdmission}
 use Rattle.corkplover.specs.declared.pixels.PixelAnswer.{PixelAnswer}
 use Rattle.corkplover.specs.declared.pixels.PixelAnswer.the-variants as pixel
 use Rattle.corkplover.specs.declared.pixels.SourceAnswer.{SourceAnswer}
@@ -23,32 +22,32 @@ use Rattle.corkplover.specs.declared.meters.LevelsAnswer.{LevelsAnswer}
 use Rattle.corkplover.specs.declared.meters.LevelsAnswer.the-variants as levels
 
 -- a pixel either way
-abbrev pub convertedBy : Way → Pixel → Verdict → PixelAnswer
-convertedBy w p (verdict.Served x) = pixel.Converted (convert w x p)
-convertedBy w p (verdict.Refused r) = pixel.Refused r
+abbrev pub convertedBy : Way → Pixel → Admission → PixelAnswer
+convertedBy w p (admission.Served x) = pixel.Converted (convert w x p)
+convertedBy w p (admission.Refused r) = pixel.Refused r
 
 unfoldable pub pixelAnswer : Way → Setting → Pixel → PixelAnswer
-pixelAnswer w s p = convertedBy w p (admitted (callOf w) w s p)
+pixelAnswer w s p = convertedBy w p (pixelAdmission (call.Convert w) s p)
 
 -- the source check of a pixel
-abbrev pub sourceBy : Pixel → Verdict → SourceAnswer
-sourceBy p (verdict.Served x) = cond (hasSource x p) source.Yes source.NoSource
-sourceBy p (verdict.Refused r) = source.Refused r
+abbrev pub sourceBy : Pixel → Admission → SourceAnswer
+sourceBy p (admission.Served x) = cond (hasSource x p) source.Yes source.NoSource
+sourceBy p (admission.Refused r) = source.Refused r
 
 unfoldable pub sourceAnswer : Setting → Pixel → SourceAnswer
-sourceAnswer s p = sourceBy p (admitted call.ImageCheck Reverse s p)
+sourceAnswer s p = sourceBy p (pixelAdmission call.ImageCheck s p)
 
 -- the meter, of one sample and of a pixel
-abbrev pub readBy : SampleKind → ℕ → Verdict → Reading
-readBy k v (verdict.Served x) = meter.Level (levelOf k (x .«ycc_full») (x .depths .luma) (x .depths .chroma) v)
-readBy k v (verdict.Refused r) = meter.Refused r
+abbrev pub readBy : SampleKind → ℕ → Admission → Reading
+readBy k v (admission.Served x) = meter.Level (levelOf k (x .«ycc_full») (x .depths .luma) (x .depths .chroma) v)
+readBy k v (admission.Refused r) = meter.Refused r
 
 unfoldable pub reading : SampleKind → Setting → ℕ → Reading
-reading k s v = readBy k v (admittedOne k s v)
+reading k s v = readBy k v (sampleAdmission k s v)
 
-abbrev pub levelsBy : Pixel → Verdict → LevelsAnswer
-levelsBy p (verdict.Served x) = levels.Levels (levelsOf (x .«ycc_full») (x .depths .luma) (x .depths .chroma) p)
-levelsBy p (verdict.Refused r) = levels.Refused r
+abbrev pub levelsBy : Pixel → Admission → LevelsAnswer
+levelsBy p (admission.Served x) = levels.Levels (levelsOf (x .«ycc_full») (x .depths .luma) (x .depths .chroma) p)
+levelsBy p (admission.Refused r) = levels.Refused r
 
 unfoldable pub levelsAnswer : Setting → Pixel → LevelsAnswer
-levelsAnswer s p = levelsBy p (admitted call.Meter Reverse s p)
+levelsAnswer s p = levelsBy p (pixelAdmission call.Meter s p)

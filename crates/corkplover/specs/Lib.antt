@@ -1,6 +1,5 @@
 -- What each call answers.
-pub mod Admit
 pub mod Answers
-pub mod Said
+pub mod Meaning
 pub mod Packing
-pub mod Left
+pub mod After

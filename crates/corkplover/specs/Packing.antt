@@ -7,7 +7,7 @@ use lib.Dec.{eqb}
 use lib.IntN.{pos}
 use lib.Ieee.{Float, fin}
 use Rattle.sample.specs.declared.Pixel.{Pixel}
-use Rattle.meter.specs.declared.Levels.{Levels}
+use Rattle.meter.specs.declared.PixelLevels.{PixelLevels}
 use Rattle.refusal.specs.declared.Refusal.{Refusal}
 use Rattle.setting.specs.declared.Setting.{Setting}
 use Rattle.frame.specs.declared.Size.{Size}
@@ -65,7 +65,7 @@ abbrev pub levelIn : Reading → Float
 levelIn (meter.Level x) = x
 levelIn (meter.Refused r) = noLevel
 
-abbrev pub levelsIn : LevelsAnswer → Levels
+abbrev pub levelsIn : LevelsAnswer → PixelLevels
 levelsIn (levels.Levels x) = x
 levelsIn (levels.Refused r) = record { y = noLevel; cb = noLevel; cr = noLevel }
 
@@ -108,7 +108,7 @@ abbrev pub pixelFrom : ℕ → ℕ → ℕ → Pixel
 pixelFrom a b c = record { p0 = a; p1 = b; p2 = c }
 
 abbrev pub sizes : ℕ → ℕ → ℕ → ℕ → Size
-sizes w h source output = record { width = w; height = h; «source_stride» = source; «output_stride» = output }
+sizes w h source output = record { width = w; height = h; «input_stride» = source; «output_stride» = output }
 
 -- a frame is 0 where it was converted
 abbrev pub packedFrame : FrameAnswer → ℕ

@@ -1,12 +1,12 @@
-// The calls for C and for every language that can call C: plain numbers and slices. A setting is one number, and so is an answer
+// The calls for C and for every language that can call C: numbered numbers and slices. A setting is one number, and so is an answer
 // (specs/Packing.antt).
 ghost use mathlib.Core.Path.{_≡_};
 ghost use Rattle.setting.specs.Label.{primariesLabel, transferLabel, matrixLabel, labelNumber};
-ghost use Rattle.pixel.specs.declared.Way.the-variants.{Forward, Reverse};
+ghost use Rattle.setting.specs.declared.Way.the-variants.{Forward, Reverse};
 ghost use Rattle.meter.specs.declared.SampleKind.the-variants.{Y, Cb, Cr};
 ghost use Rattle.corkplover.specs.Answers.{pixelAnswer};
 ghost use Rattle.corkplover.specs.Packing.{settingIn, pixelFrom, packedPixel};
-ghost use Rattle.corkplover.specs.Left.{ReadingLeft, LevelsLeft};
+ghost use Rattle.corkplover.specs.After.{ReadingAfter, LevelsAfter};
 use crate::labels;
 use crate::meters;
 use crate::packing;
@@ -52,7 +52,7 @@ pub extern "C" fn corkplover_reverse_pixel(setting: u64, y: u16, cb: u16, cr: u1
 
 // One sample's level, which goes where the caller said.
 fn leave_reading(kind: SampleKind, setting: u64, v: u16, level: &mut f32) -> u64
-    ensures { λ x. ⌜ ReadingLeft kind (settingIn setting) v x (now (level .exit)) ⌝ }
+    ensures { λ x. ⌜ ReadingAfter kind (settingIn setting) v x (now (level .exit)) ⌝ }
 {
     let answer = meters::meter_sample(kind, setting_in(setting), v);
     *level = packing::level_in(answer);
@@ -61,21 +61,21 @@ fn leave_reading(kind: SampleKind, setting: u64, v: u16, level: &mut f32) -> u64
 
 #[no_mangle]
 pub extern "C" fn corkplover_meter_y(setting: u64, v: u16, level: &mut f32) -> u64
-    ensures { λ x. ⌜ ReadingLeft Y (settingIn setting) v x (now (level .exit)) ⌝ }
+    ensures { λ x. ⌜ ReadingAfter Y (settingIn setting) v x (now (level .exit)) ⌝ }
 {
     leave_reading(SampleKind::Y, setting, v, level)
 }
 
 #[no_mangle]
 pub extern "C" fn corkplover_meter_cb(setting: u64, v: u16, level: &mut f32) -> u64
-    ensures { λ x. ⌜ ReadingLeft Cb (settingIn setting) v x (now (level .exit)) ⌝ }
+    ensures { λ x. ⌜ ReadingAfter Cb (settingIn setting) v x (now (level .exit)) ⌝ }
 {
     leave_reading(SampleKind::Cb, setting, v, level)
 }
 
 #[no_mangle]
 pub extern "C" fn corkplover_meter_cr(setting: u64, v: u16, level: &mut f32) -> u64
-    ensures { λ x. ⌜ ReadingLeft Cr (settingIn setting) v x (now (level .exit)) ⌝ }
+    ensures { λ x. ⌜ ReadingAfter Cr (settingIn setting) v x (now (level .exit)) ⌝ }
 {
     leave_reading(SampleKind::Cr, setting, v, level)
 }
@@ -90,7 +90,7 @@ pub extern "C" fn corkplover_meter_pixel(
     cblevel: &mut f32,
     crlevel: &mut f32,
 ) -> u64
-    ensures { λ x. ⌜ LevelsLeft (settingIn setting) (pixelFrom y cb cr) x (now (ylevel .exit)) (now (cblevel .exit)) (now (crlevel .exit)) ⌝ }
+    ensures { λ x. ⌜ LevelsAfter (settingIn setting) (pixelFrom y cb cr) x (now (ylevel .exit)) (now (cblevel .exit)) (now (crlevel .exit)) ⌝ }
 {
     let answer = meters::meter_pixel(setting_in(setting), pixel_from(y, cb, cr));
     let levels = packing::levels_in(answer);

@@ -1,15 +1,15 @@
 // The calls on whole frames for C and for every language that can call C. A slice is a pointer and then a length.
 ghost use mathlib.Core.Path.{_≡_};
-ghost use Rattle.pixel.specs.declared.Way.the-variants.{Forward, Reverse};
+ghost use Rattle.setting.specs.declared.Way.the-variants.{Forward, Reverse};
 ghost use Rattle.image_check.specs.Image.{imageAnswer};
-ghost use Rattle.picture.specs.Picture.{picture};
+ghost use Rattle.planes.specs.Picture.{picture};
 ghost use Rattle.corkplover.specs.Packing.{settingIn, sizes, packedImage};
-ghost use Rattle.corkplover.specs.Left.{FrameExportLeft};
+ghost use Rattle.corkplover.specs.After.{FrameExportAfter};
 use crate::frames;
 use crate::packing;
 use crate::packing::setting_in;
 use crate::packing::size_of;
-use pixel::Way;
+use setting::Way;
 
 // Planes a to planes b, by the way that is asked for.
 fn leave_frame(
@@ -26,7 +26,7 @@ fn leave_frame(
     b1: &mut [u16],
     b2: &mut [u16],
 ) -> u64
-    ensures { λ x. ⌜ FrameExportLeft way (settingIn setting) (sizes width height sourcestride outputstride)
+    ensures { λ x. ⌜ FrameExportAfter way (settingIn setting) (sizes width height sourcestride outputstride)
         (now (a0 .entry)) (now (a1 .entry)) (now (a2 .entry)) (now (b0 .entry)) (now (b1 .entry)) (now (b2 .entry))
         x (now (b0 .exit)) (now (b1 .exit)) (now (b2 .exit)) ⌝ }
 {
@@ -49,7 +49,7 @@ pub extern "C" fn corkplover_forward_frame(
     cb: &mut [u16],
     cr: &mut [u16],
 ) -> u64
-    ensures { λ x. ⌜ FrameExportLeft Forward (settingIn setting) (sizes width height sourcestride outputstride)
+    ensures { λ x. ⌜ FrameExportAfter Forward (settingIn setting) (sizes width height sourcestride outputstride)
         (now (r .entry)) (now (g .entry)) (now (b .entry)) (now (y .entry)) (now (cb .entry)) (now (cr .entry))
         x (now (y .exit)) (now (cb .exit)) (now (cr .exit)) ⌝ }
 {
@@ -83,7 +83,7 @@ pub extern "C" fn corkplover_reverse_frame(
     g: &mut [u16],
     b: &mut [u16],
 ) -> u64
-    ensures { λ x. ⌜ FrameExportLeft Reverse (settingIn setting) (sizes width height sourcestride outputstride)
+    ensures { λ x. ⌜ FrameExportAfter Reverse (settingIn setting) (sizes width height sourcestride outputstride)
         (now (y .entry)) (now (cb .entry)) (now (cr .entry)) (now (r .entry)) (now (g .entry)) (now (b .entry))
         x (now (r .exit)) (now (g .exit)) (now (b .exit)) ⌝ }
 {

@@ -1,15 +1,15 @@
 // Whole frames, either way, and the image check. Any sizes, strides and plane lengths may be handed in; every element of the output planes is set by every call.
 ghost use mathlib.Core.Path.{_≡_};
 ghost use lib.ListN.{length};
-ghost use Rattle.pixel.specs.declared.Way.the-variants.{Forward, Reverse};
-ghost use Rattle.frame.specs.Frame.{sourceOf, outputOf, FrameLeft};
+ghost use Rattle.setting.specs.declared.Way.the-variants.{Forward, Reverse};
+ghost use Rattle.frame.specs.Frame.{inputPicture, outputLayout, FrameAfter};
 ghost use Rattle.image_check.specs.Image.{imageAnswer};
-ghost use Rattle.picture.specs.Picture.{picture};
+ghost use Rattle.planes.specs.Picture.{picture};
 use frame::FrameAnswer;
 use frame::Size;
 use image_check::ImageAnswer;
-use pixel::Way;
 use setting::Setting;
+use setting::Way;
 
 // R, G, B to Y, Cb, Cr. Refusals 1 to 7, 8, 9 on all six planes, then 10.
 pub fn forward_frame(
@@ -22,7 +22,7 @@ pub fn forward_frame(
     cb: &mut [u16],
     cr: &mut [u16],
 ) -> FrameAnswer
-    ensures { λ x. ⌜ FrameLeft Forward s (sourceOf size (now (r .entry)) (now (g .entry)) (now (b .entry))) (outputOf size (length (now (y .entry))) (length (now (cb .entry))) (length (now (cr .entry)))) x (now (y .exit)) (now (cb .exit)) (now (cr .exit)) ⌝ }
+    ensures { λ x. ⌜ FrameAfter Forward s (inputPicture size (now (r .entry)) (now (g .entry)) (now (b .entry))) (outputLayout size (length (now (y .entry))) (length (now (cb .entry))) (length (now (cr .entry)))) x (now (y .exit)) (now (cb .exit)) (now (cr .exit)) ⌝ }
 {
     frame::convert_frame(Way::Forward, s, size, r, g, b, y, cb, cr)
 }
@@ -38,7 +38,7 @@ pub fn reverse_frame(
     g: &mut [u16],
     b: &mut [u16],
 ) -> FrameAnswer
-    ensures { λ x. ⌜ FrameLeft Reverse s (sourceOf size (now (y .entry)) (now (cb .entry)) (now (cr .entry))) (outputOf size (length (now (r .entry))) (length (now (g .entry))) (length (now (b .entry)))) x (now (r .exit)) (now (g .exit)) (now (b .exit)) ⌝ }
+    ensures { λ x. ⌜ FrameAfter Reverse s (inputPicture size (now (y .entry)) (now (cb .entry)) (now (cr .entry))) (outputLayout size (length (now (r .entry))) (length (now (g .entry))) (length (now (b .entry)))) x (now (r .exit)) (now (g .exit)) (now (b .exit)) ⌝ }
 {
     frame::convert_frame(Way::Reverse, s, size, y, cb, cr, r, g, b)
 }

@@ -1,5 +1,4 @@
 // The box. Every entry point stands in this crate: none has a `requires`, and each contract settles the answer for every input.
-mod admit;
 pub mod exports;
 pub mod frame_exports;
 pub mod frames;

@@ -1,15 +1,13 @@
 // The spot meter: what a sample, or the three of a pixel, stands for. Refusals 1 to 7, 11, then 10 with the plane's number.
 ghost use mathlib.Core.Path.{_≡_};
 ghost use Rattle.corkplover.specs.Answers.{reading, levelsAnswer};
-use crate::admit;
-use meter::Levels;
+use meter::PixelLevels;
 use meter::SampleKind;
-use pixel::Way;
 use refusal::Refusal;
 use sample::Pixel;
 use setting::Call;
 use setting::Setting;
-use setting::verdict::Verdict;
+use setting::admission::Admission;
 
 pub enum Reading {
     Level(f32),
@@ -17,7 +15,7 @@ pub enum Reading {
 }
 
 pub enum LevelsAnswer {
-    Levels(Levels),
+    Levels(PixelLevels),
     Refused(Refusal),
 }
 
@@ -25,9 +23,9 @@ pub enum LevelsAnswer {
 pub fn meter_sample(kind: SampleKind, s: Setting, v: u16) -> Reading
     ensures { λ r. ⌜ r ≡ reading kind s v ⌝ }
 {
-    match admit::admit_one(kind, s, v) {
-        Verdict::Refused(refusal) => Reading::Refused(refusal),
-        Verdict::Served(served) => {
+    match admit::admit_sample(kind, s, v) {
+        Admission::Refused(refusal) => Reading::Refused(refusal),
+        Admission::Served(served) => {
             let depths = served.depths;
             let full = served.ycc_full;
             Reading::Level(meter::level_of(kind, full, depths.luma, depths.chroma, v))
@@ -39,9 +37,9 @@ pub fn meter_sample(kind: SampleKind, s: Setting, v: u16) -> Reading
 pub fn meter_pixel(s: Setting, p: Pixel) -> LevelsAnswer
     ensures { λ r. ⌜ r ≡ levelsAnswer s p ⌝ }
 {
-    match admit::admit(Call::Meter, Way::Reverse, s, p) {
-        Verdict::Refused(refusal) => LevelsAnswer::Refused(refusal),
-        Verdict::Served(served) => {
+    match admit::admit_pixel(Call::Meter, s, p) {
+        Admission::Refused(refusal) => LevelsAnswer::Refused(refusal),
+        Admission::Served(served) => {
             let depths = served.depths;
             let full = served.ycc_full;
             LevelsAnswer::Levels(meter::levels_of(full, depths.luma, depths.chroma, p))

@@ -8,7 +8,7 @@ use crate::pixels::PixelAnswer;
 use frame::FrameAnswer;
 use frame::Size;
 use image_check::ImageAnswer;
-use meter::Levels;
+use meter::PixelLevels;
 use refusal::Refusal;
 use sample::Pixel;
 use setting::Setting;
@@ -69,12 +69,12 @@ pub fn pack_levels(answer: LevelsAnswer) -> u64
     }
 }
 
-pub fn levels_in(answer: LevelsAnswer) -> Levels
+pub fn levels_in(answer: LevelsAnswer) -> PixelLevels
     ensures { λ r. ⌜ r ≡ levelsIn answer ⌝ }
 {
     match answer {
         LevelsAnswer::Levels(levels) => levels,
-        LevelsAnswer::Refused(_) => Levels {
+        LevelsAnswer::Refused(_) => PixelLevels {
             y: 0.0,
             cb: 0.0,
             cr: 0.0,
@@ -139,7 +139,7 @@ pub fn size_of(width: usize, height: usize, sourcestride: usize, outputstride: u
     Size {
         width,
         height,
-        source_stride: sourcestride,
+        input_stride: sourcestride,
         output_stride: outputstride,
     }
 }

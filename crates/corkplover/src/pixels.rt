@@ -1,14 +1,13 @@
 // One pixel: converted either way, or asked for its source. Any setting and any three samples may be handed in.
 ghost use mathlib.Core.Path.{_≡_};
-ghost use Rattle.pixel.specs.declared.Way.the-variants.{Forward, Reverse};
+ghost use Rattle.setting.specs.declared.Way.the-variants.{Forward, Reverse};
 ghost use Rattle.corkplover.specs.Answers.{pixelAnswer, sourceAnswer};
-use crate::admit;
-use pixel::Way;
 use refusal::Refusal;
 use sample::Pixel;
 use setting::Call;
 use setting::Setting;
-use setting::verdict::Verdict;
+use setting::Way;
+use setting::admission::Admission;
 
 pub enum PixelAnswer {
     Converted(Pixel),
@@ -24,11 +23,11 @@ pub enum SourceAnswer {
 fn convert_pixel(way: Way, s: Setting, p: Pixel) -> PixelAnswer
     ensures { λ r. ⌜ r ≡ pixelAnswer way s p ⌝ }
 {
-    match admit::admit(pixel::call_of(way), way, s, p) {
-        Verdict::Refused(refusal) => PixelAnswer::Refused(refusal),
-        Verdict::Served(served) => {
-            let prepared = pixel::prepare(way, served);
-            PixelAnswer::Converted(pixel::convert(way, served, prepared, p))
+    match admit::admit_pixel(Call::Convert(way), s, p) {
+        Admission::Refused(refusal) => PixelAnswer::Refused(refusal),
+        Admission::Served(served) => {
+            let plan = plan::plan_of(way, served);
+            PixelAnswer::Converted(convert::pixel(plan, p))
         }
     }
 }
@@ -51,10 +50,12 @@ pub fn reverse_pixel(s: Setting, p: Pixel) -> PixelAnswer
 pub fn source_pixel(s: Setting, p: Pixel) -> SourceAnswer
     ensures { λ r. ⌜ r ≡ sourceAnswer s p ⌝ }
 {
-    match admit::admit(Call::ImageCheck, Way::Reverse, s, p) {
-        Verdict::Refused(refusal) => SourceAnswer::Refused(refusal),
-        Verdict::Served(served) => {
-            if pixel::has_source(served, p) {
+    match admit::admit_pixel(Call::ImageCheck, s, p) {
+        Admission::Refused(refusal) => SourceAnswer::Refused(refusal),
+        Admission::Served(served) => {
+            let back = plan::plan_of(Way::Reverse, served);
+            let forth = plan::plan_of(Way::Forward, served);
+            if convert::comes_back(back, forth, p) {
                 return SourceAnswer::Yes;
             }
             SourceAnswer::NoSource

@@ -12,20 +12,20 @@ use Rattle.sample.specs.declared.Pixel.{Pixel}
 use Rattle.sample.proofs.DepthLaws.{powers}
 use Rattle.planes.specs.declared.search.Found.the-variants as found
 use Rattle.planes.proofs.SearchTheorems.{nothing-means}
-use Rattle.setting.specs.Refusals.{depths, served, judged, refusalOf}
+use Rattle.setting.specs.Rules.{depths, served, judged, refusalOf}
 use Rattle.setting.specs.declared.Call.the-variants as call
 use Rattle.setting.specs.declared.Setting.{Setting}
-use Rattle.setting.specs.declared.verdict.Served.{Served}
+use Rattle.setting.specs.declared.admission.Served.{Served}
 use Rattle.meter.specs.Level.{planeNumber, scaleOf, levelOf, levelsOf, nearestTo}
 use Rattle.meter.specs.declared.SampleKind.{SampleKind}
 use Rattle.meter.specs.declared.SampleKind.the-variants as kind
 use Rattle.meter.proofs.Scales.{level-rounded-once}
-use Rattle.pixel.specs.Pixel.{convert, callOf, InsideSource}
-use Rattle.pixel.specs.declared.Way.{Way}
-use Rattle.pixel.specs.declared.Way.the-variants.{Reverse}
-use Rattle.pixel.proofs.ReadyLaws.{ready}
-use Rattle.picture.proofs.Accepted.{inside-exactly}
-use Rattle.corkplover.specs.Admit.{pixelPicture, topOf, badPixel, badOne, admitted, admittedOne}
+use Rattle.plan.specs.Conversion.{convert, callOf, InsideSource}
+use Rattle.setting.specs.declared.Way.{Way}
+use Rattle.setting.specs.declared.Way.the-variants.{Reverse}
+use Rattle.setting.proofs.ReadyLaws.{ready}
+use Rattle.admit.proofs.Accepted.{inside-exactly}
+use Rattle.admit.specs.Rules.{pixelPicture, topOf, badPixel, badOne, admitted, admittedOne}
 use Rattle.corkplover.specs.Answers.{pixelAnswer, reading, levelsAnswer}
 use Rattle.corkplover.specs.declared.meters.Reading.the-variants as meter
 use Rattle.corkplover.specs.declared.meters.LevelsAnswer.the-variants as levels

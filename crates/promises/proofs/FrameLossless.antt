@@ -7,24 +7,24 @@ use Prim.Native.Nat.{ℕ, _<_}
 use native.Mathlib.Omega.{arith}
 use Rattle.sample.specs.Depth.{InsideYCC}
 use Rattle.sample.specs.declared.Pixel.{Pixel}
-use Rattle.refusal.specs.Table.{row, first}
+use Rattle.refusal.specs.Rules.{row, first}
 use Rattle.planes.specs.Plane.{planeOf, sampleAt}
-use Rattle.planes.specs.Sizes.{sizeRefusal, ServedSide}
-use Rattle.planes.specs.declared.size.Side.{Side}
+use Rattle.planes.specs.Sizes.{sizeRefusal, Fits}
+use Rattle.planes.specs.declared.size.Layout.{Layout}
 use Rattle.planes.proofs.PlaneTheorems.{plane-same}
 use Rattle.planes.proofs.SizeTheorems.{refused-0}
-use Rattle.setting.specs.Refusals.{depths, served, refusalOf}
+use Rattle.setting.specs.Rules.{depths, served, refusalOf}
 use Rattle.setting.specs.declared.Call.the-variants as call
 use Rattle.setting.specs.declared.Setting.{Setting}
 use Rattle.setting.proofs.RefusalLaws.{in-turn, groups}
-use Rattle.pixel.specs.Pixel.{callOf, convert}
-use Rattle.pixel.specs.declared.Way.{Way}
-use Rattle.pixel.specs.declared.Way.the-variants.{Forward, Reverse}
-use Rattle.pixel.proofs.ReadyLaws.{ready}
-use Rattle.pixel.proofs.PixelTheorems.{forward-inside}
-use Rattle.picture.specs.Picture.{Picture, picture, sideOfPicture, pixelOf, EveryPixel}
-use Rattle.picture.proofs.Accepted.{Accepted, sides-served, pixels-inside, inside-exactly}
-use Rattle.row.specs.Row.{sampleOf}
+use Rattle.plan.specs.Conversion.{callOf, convert}
+use Rattle.setting.specs.declared.Way.{Way}
+use Rattle.setting.specs.declared.Way.the-variants.{Forward, Reverse}
+use Rattle.setting.proofs.ReadyLaws.{ready}
+use Rattle.plan.proofs.ConversionTheorems.{forward-inside}
+use Rattle.planes.specs.Picture.{Picture, picture, layoutOf, pixelOf, EveryPixel}
+use Rattle.admit.proofs.Accepted.{Accepted, sides-served, pixels-inside, inside-exactly}
+use Rattle.planes.specs.Picture.{sampleOf}
 use Rattle.frame.specs.Frame.{frameAnswer, lengthOf, outPlane}
 use Rattle.frame.specs.declared.FrameAnswer.the-variants.{Done}
 use Rattle.promises.proofs.Lossless.{pixel-trip, pixel-one-to-one}
@@ -48,7 +48,7 @@ converts-too Reverse s e = in-turn call.Reverse s ∙ rw (groups call.ImageCheck
 module _ (s : Setting) (e : refusalOf call.ImageCheck s ≡ 0) where
   -- ---- frames are one-to-one: pictures with equal conversions are equal
 
-  pub frames-one-to-one : (a c : Picture) (b d : Side) → frameAnswer Forward s a b ≡ Done → frameAnswer Forward s c d ≡ Done
+  pub frames-one-to-one : (a c : Picture) (b d : Layout) → frameAnswer Forward s a b ≡ Done → frameAnswer Forward s c d ≡ Done
       → a .width ≡ c .width → a .height ≡ c .height
       → ((k j i : ℕ) → k < 3 → j < a .height → i < a .width → sampleAt (outPlane k Forward s a b) (b .stride) j i ≡ sampleAt (outPlane k Forward s c d) (d .stride) j i)
       → (j i : ℕ) → j < a .height → i < a .width → pixelOf a j i ≡ pixelOf c j i
@@ -62,7 +62,7 @@ module _ (s : Setting) (e : refusalOf call.ImageCheck s ≡ 0) where
 
   -- ---- a frame comes back: the planes that a forward call left are handed to the reverse call
 
-  module _ (a : Picture) (b d : Side) (f : frameAnswer Forward s a b ≡ Done) (h : ServedSide (a .width) (a .height) d) where
+  module _ (a : Picture) (b d : Layout) (f : frameAnswer Forward s a b ≡ Done) (h : Fits (a .width) (a .height) d) where
     -- the picture in the forward call's output planes
     abbrev pub sent : Picture
     sent = picture (a .width) (a .height) (b .stride) (outPlane 0 Forward s a b) (outPlane 1 Forward s a b) (outPlane 2 Forward s a b)
@@ -83,13 +83,13 @@ module _ (s : Setting) (e : refusalOf call.ImageCheck s ≡ 0) where
         subst (InsideYCC (depths s)) (sym (sent-pixel j i x y))
         (forward-inside (served s) (pixelOf a j i) (ready call.ImageCheck s e) (pixels-inside _ _ _ _ _ taken j i x y))
 
-    sent-sizes : sizeRefusal (a .width) (a .height) (sideOfPicture sent ∷ d ∷ []) ≡ 0
+    sent-sizes : sizeRefusal (a .width) (a .height) (layoutOf sent ∷ d ∷ []) ≡ 0
     sent-sizes =
         let own = sides-served call.Forward Forward s a (b ∷ []) taken .1 .0 in
         let l0 = frame-length Forward s a b 0 in
         let l1 = frame-length Forward s a b 1 in
         let l2 = frame-length Forward s a b 2 in
-        refused-0 (a .width) (a .height) (sideOfPicture sent ∷ d ∷ []) .1 (
+        refused-0 (a .width) (a .height) (layoutOf sent ∷ d ∷ []) .1 (
           record {
             width-within = h .sized .width-within;
             height-within = h .sized .height-within;

@@ -10,25 +10,25 @@ use native.Mathlib.Omega.{arith}
 use lib.ListN.{length, getD}
 use Rattle.refusal.specs.declared.Refusal.{Refusal}
 use Rattle.planes.specs.Plane.{sampleAt, SamePicture}
-use Rattle.planes.specs.Sizes.{needed, ServedSide}
-use Rattle.planes.specs.declared.size.Side.{Side}
+use Rattle.planes.specs.Sizes.{needed, Fits}
+use Rattle.planes.specs.declared.size.Layout.{Layout}
 use Rattle.planes.proofs.Tables.{length-tab, tab-at}
 use Rattle.planes.proofs.PlaneTheorems.{plane-length, plane-inside, plane-outside, plane-same, pixel-same}
 use Rattle.planes.proofs.SearchTheorems.{bad-sample-same, first-place-same}
-use Rattle.setting.specs.Refusals.{served}
+use Rattle.setting.specs.Rules.{served}
 use Rattle.setting.specs.declared.Call.{Call}
 use Rattle.setting.specs.declared.Call.the-variants as call
 use Rattle.setting.specs.declared.Setting.{Setting}
-use Rattle.setting.specs.declared.verdict.Served.{Served}
-use Rattle.setting.specs.declared.verdict.Verdict.{Verdict}
-use Rattle.setting.specs.declared.verdict.Verdict.the-variants as verdict
-use Rattle.pixel.specs.Pixel.{callOf, convert}
-use Rattle.pixel.specs.declared.Way.{Way}
-use Rattle.pixel.specs.declared.Way.the-variants.{Reverse}
-use Rattle.picture.specs.Picture.{Picture, picture, pixelOf}
-use Rattle.picture.specs.Verdict.{pictureVerdict}
-use Rattle.picture.proofs.Accepted.{Accepted, accepted-of, of-accepted, sides-served}
-use Rattle.row.specs.Row.{sampleOf}
+use Rattle.setting.specs.declared.admission.Served.{Served}
+use Rattle.setting.specs.declared.admission.Admission.{Admission}
+use Rattle.setting.specs.declared.admission.Admission.the-variants as admission
+use Rattle.plan.specs.Conversion.{callOf, convert}
+use Rattle.setting.specs.declared.Way.{Way}
+use Rattle.setting.specs.declared.Way.the-variants.{Reverse}
+use Rattle.planes.specs.Picture.{Picture, picture, pixelOf}
+use Rattle.admit.specs.Rules.{pictureVerdict}
+use Rattle.admit.proofs.Accepted.{Accepted, accepted-of, of-accepted, sides-served}
+use Rattle.planes.specs.Picture.{sampleOf}
 use Rattle.frame.specs.Frame.{frameVerdict, frameBy, frameAnswer, convertedPlane, planeBy, lengthOf, outPlane}
 use Rattle.frame.specs.declared.FrameAnswer.the-variants.{Done, Refused}
 use Rattle.frame.proofs.FrameLaws.{plane-done, plane-refused}
@@ -38,23 +38,23 @@ use Rattle.image_check.specs.Image as image
 -- ---- every element
 
 -- a verdict that was answered by Done, and by a refusal
-record ServedBy (v : Verdict) : Type 0 where
+record ServedBy (v : Admission) : Type 0 where
   by : Served
-  is : v ≡ verdict.Served by
+  is : v ≡ admission.Served by
 
-done-served : (v : Verdict) → frameBy v ≡ Done → ServedBy v
-done-served (verdict.Served x) e = record { by = x; is = refl }
-done-served (verdict.Refused r) e = absurd (true≢false cc)
+done-served : (v : Admission) → frameBy v ≡ Done → ServedBy v
+done-served (admission.Served x) e = record { by = x; is = refl }
+done-served (admission.Refused r) e = absurd (true≢false cc)
 
-pub frame-refused : (v : Verdict) (r : Refusal) → frameBy v ≡ Refused r → v ≡ verdict.Refused r
-frame-refused (verdict.Served x) r e = absurd (true≢false cc)
-frame-refused (verdict.Refused q) r e = let f : q ≡ r = cc in ap verdict.Refused f
+pub frame-refused : (v : Admission) (r : Refusal) → frameBy v ≡ Refused r → v ≡ admission.Refused r
+frame-refused (admission.Served x) r e = absurd (true≢false cc)
+frame-refused (admission.Refused q) r e = let f : q ≡ r = cc in ap admission.Refused f
 
 -- an element inside the picture is an element of the plane
 pub index-inside : (width height stride j i : ℕ) → j < height → i < width → j * stride + i < needed width height stride
 index-inside width height stride j i a b = omega (arith, mul-le-mul-right {m = j} {n = height - 1} stride (omega arith))
 
-module _ (w : Way) (s : Setting) (a : Picture) (b : Side) where
+module _ (w : Way) (s : Setting) (a : Picture) (b : Layout) where
   -- Done exactly if no row applies
   pub frame-done : (frameAnswer w s a b ≡ Done) ↔ Accepted (callOf w) w s a (b ∷ [])
   unfolding frameAnswer
@@ -64,9 +64,9 @@ module _ (w : Way) (s : Setting) (a : Picture) (b : Side) where
   )
 
   -- after any call the plane is as long as before
-  by-length : (k : ℕ) (v : Verdict) → length (planeBy v k w a (b .stride) (lengthOf k b)) ≡ lengthOf k b
-  by-length k (verdict.Served x) = plane-length (lengthOf k b) (b .stride) (a .width) (a .height) _
-  by-length k (verdict.Refused r) = length-tab (lengthOf k b) _
+  by-length : (k : ℕ) (v : Admission) → length (planeBy v k w a (b .stride) (lengthOf k b)) ≡ lengthOf k b
+  by-length k (admission.Served x) = plane-length (lengthOf k b) (b .stride) (a .width) (a .height) _
+  by-length k (admission.Refused r) = length-tab (lengthOf k b) _
 
   pub frame-length : (k : ℕ) → length (outPlane k w s a b) ≡ lengthOf k b
   unfolding outPlane
@@ -86,7 +86,7 @@ module _ (w : Way) (s : Setting) (a : Picture) (b : Side) where
     pub done-plane : (k : ℕ) → outPlane k w s a b ≡ convertedPlane k w (served s) a (b .stride) (lengthOf k b)
     done-plane k = plane-done w s a b (served s) (of-accepted (callOf w) w s a (b ∷ []) accepted) k
 
-    output-served : ServedSide (a .width) (a .height) b
+    output-served : Fits (a .width) (a .height) b
     output-served = sides-served (callOf w) w s a (b ∷ []) accepted .1 .0
 
     long-enough : (k : ℕ) → k < 3 → needed (a .width) (a .height) (b .stride) ≤ lengthOf k b
@@ -128,7 +128,7 @@ module _ (a : Picture) (q0 q1 q2 : List ℕ) (e : Alike a q0 q1 q2) where
   pixels : (j i : ℕ) → j < a .height → i < a .width → pixelOf a j i ≡ pixelOf (withPlanes a q0 q1 q2) j i
   pixels = pixel-same (a .stride) (a .width) (a .height) (a .p0) (a .p1) (a .p2) q0 q1 q2 (e .same0) (e .same1) (e .same2)
 
-  same-verdict : (c : Call) (w : Way) (s : Setting) (others : List Side) → pictureVerdict c w s a others ≡ pictureVerdict c w s (withPlanes a q0 q1 q2) others
+  same-verdict : (c : Call) (w : Way) (s : Setting) (others : List Layout) → pictureVerdict c w s a others ≡ pictureVerdict c w s (withPlanes a q0 q1 q2) others
   unfolding pictureVerdict
   same-verdict c w s others =
       rw (
@@ -138,16 +138,16 @@ module _ (a : Picture) (q0 q1 q2 : List ℕ) (e : Alike a q0 q1 q2) where
         bad-sample-same (a .p0) (a .p1) (a .p2) q0 q1 q2 (a .stride) (a .width) (a .height) _ (e .same0) (e .same1) (e .same2),
       )
 
-  pub same-answer : (w : Way) (s : Setting) (b : Side) → frameAnswer w s a b ≡ frameAnswer w s (withPlanes a q0 q1 q2) b
+  pub same-answer : (w : Way) (s : Setting) (b : Layout) → frameAnswer w s a b ≡ frameAnswer w s (withPlanes a q0 q1 q2) b
   unfolding frameAnswer
   same-answer w s b = ap frameBy (same-verdict (callOf w) w s (b ∷ []))
 
-  by-same : (k : ℕ) (w : Way) (stride n : ℕ) (v : Verdict) → planeBy v k w a stride n ≡ planeBy v k w (withPlanes a q0 q1 q2) stride n
-  by-same k w stride n (verdict.Served x) =
+  by-same : (k : ℕ) (w : Way) (stride n : ℕ) (v : Admission) → planeBy v k w a stride n ≡ planeBy v k w (withPlanes a q0 q1 q2) stride n
+  by-same k w stride n (admission.Served x) =
       plane-same n stride (a .width) (a .height) _ _ (λ j i h l. ap (λ p. sampleOf k (convert w x p)) (pixels j i h l))
-  by-same k w stride n (verdict.Refused r) = refl
+  by-same k w stride n (admission.Refused r) = refl
 
-  pub same-plane : (k : ℕ) (w : Way) (s : Setting) (b : Side) → outPlane k w s a b ≡ outPlane k w s (withPlanes a q0 q1 q2) b
+  pub same-plane : (k : ℕ) (w : Way) (s : Setting) (b : Layout) → outPlane k w s a b ≡ outPlane k w s (withPlanes a q0 q1 q2) b
   unfolding outPlane
   same-plane k w s b =
       by-same k w (b .stride) (lengthOf k b) (frameVerdict w s a b)
@@ -156,9 +156,9 @@ module _ (a : Picture) (q0 q1 q2 : List ℕ) (e : Alike a q0 q1 q2) where
   found-same : (x : Served) → firstSourceless x a ≡ firstSourceless x (withPlanes a q0 q1 q2)
   found-same x = first-place-same (sourceless x a) (sourceless x (withPlanes a q0 q1 q2)) 0 (a .width) (a .height) (λ j i h l. rw (pixels j i h l))
 
-  image-by-same : (v : Verdict) → image.imageBy v a ≡ image.imageBy v (withPlanes a q0 q1 q2)
-  image-by-same (verdict.Served x) = ap answerFound (found-same x)
-  image-by-same (verdict.Refused r) = refl
+  image-by-same : (v : Admission) → image.imageBy v a ≡ image.imageBy v (withPlanes a q0 q1 q2)
+  image-by-same (admission.Served x) = ap answerFound (found-same x)
+  image-by-same (admission.Refused r) = refl
 
   pub same-image : (s : Setting) → imageAnswer s a ≡ imageAnswer s (withPlanes a q0 q1 q2)
   unfolding imageAnswer

@@ -10,32 +10,32 @@ use borrow.Author.Tests.{not-true, not-false}
 use lib.ListN.{length}
 use Rattle.sample.specs.Depth.{InsideRGB, InsideYCC}
 use Rattle.sample.proofs.Choices.{must}
-use Rattle.refusal.specs.Table.{row, first, orElse}
+use Rattle.refusal.specs.Rules.{row, first, orElse}
 use Rattle.refusal.specs.declared.Place.{Place}
-use Rattle.refusal.proofs.TableLaws.{neither}
+use Rattle.refusal.proofs.RuleLaws.{neither}
 use Rattle.planes.specs.First.{IsFirstPlace}
 use Rattle.planes.specs.Plane.{planeOf, sampleAt}
-use Rattle.planes.specs.Sizes.{needed, LongSide}
+use Rattle.planes.specs.Sizes.{needed, LongEnough}
 use Rattle.planes.specs.declared.search.Found.{Found}
 use Rattle.planes.specs.declared.search.Found.the-variants as found
 use Rattle.planes.proofs.PlaneTheorems.{plane-length, plane-inside}
 use Rattle.planes.proofs.SearchTheorems.{no-place-means, first-place-means}
-use Rattle.setting.specs.Refusals.{depths, served, refusalOf}
+use Rattle.setting.specs.Rules.{depths, served, refusalOf}
 use Rattle.setting.specs.declared.Call.the-variants as call
 use Rattle.setting.specs.declared.Setting.{Setting}
-use Rattle.setting.specs.declared.verdict.Verdict.the-variants as verdict
-use Rattle.pixel.specs.Pixel.{convert}
-use Rattle.pixel.specs.Source.{HasSource, hasSource}
-use Rattle.pixel.specs.declared.Way.the-variants.{Forward, Reverse}
-use Rattle.pixel.proofs.ReadyLaws.{ready}
-use Rattle.pixel.proofs.PixelTheorems.{reverse-inside, same-pixel}
-use Rattle.picture.specs.Picture.{Picture, picture, pixelOf, sideOfPicture, EveryPixel}
-use Rattle.picture.specs.Verdict.{beyondDepth, numberBefore10, pictureVerdict}
-use Rattle.picture.proofs.Accepted.{Accepted, of-accepted, pixels-inside}
-use Rattle.row.specs.Row.{sampleOf}
+use Rattle.setting.specs.declared.admission.Admission.the-variants as admission
+use Rattle.plan.specs.Conversion.{convert}
+use Rattle.plan.specs.Source.{HasSource, hasSource}
+use Rattle.setting.specs.declared.Way.the-variants.{Forward, Reverse}
+use Rattle.setting.proofs.ReadyLaws.{ready}
+use Rattle.plan.proofs.ConversionTheorems.{reverse-inside, same-pixel}
+use Rattle.planes.specs.Picture.{Picture, picture, pixelOf, layoutOf, EveryPixel}
+use Rattle.admit.specs.Rules.{beyondDepth, numberBefore10, pictureVerdict}
+use Rattle.admit.proofs.Accepted.{Accepted, of-accepted, pixels-inside}
+use Rattle.planes.specs.Picture.{sampleOf}
 use Rattle.image_check.specs.Image.{sourceless, firstSourceless, answerFound, imageBy, imageAnswer}
 use Rattle.image_check.specs.declared.ImageAnswer.the-variants.{Yes, NoSource}
-use Rattle.corkplover.specs.Said.{imageSaid}
+use Rattle.corkplover.specs.Meaning.{meaningOfImage}
 use Rattle.promises.specs.Tables.{isFound}
 use Rattle.promises.proofs.Refusals.{number, past-number}
 use Rattle.promises.proofs.FrameRefusals.{image-number}
@@ -48,7 +48,7 @@ pub record SourcePicture (s : Setting) (a : Picture) : Type 0 where
   pub width-is : source .width ≡ a .width
   pub height-is : source .height ≡ a .height
   pub stride-is : source .width ≤ source .stride
-  pub long : LongSide (source .width) (source .height) (sideOfPicture source)
+  pub long : LongEnough (source .width) (source .height) (layoutOf source)
   pub inside : EveryPixel (InsideRGB (depths s)) source
   pub converts : (j i : ℕ) → j < a .height → i < a .width → convert Forward (served s) (pixelOf source j i) ≡ pixelOf a j i
 
@@ -74,7 +74,7 @@ unfolding pictureVerdict
 verdict-number s a = past-number (numberBefore10 call.ImageCheck s a []) (served s) (beyondDepth Reverse (depths s) a)
 
 -- the image check is not refused exactly if no row applies
-pub image-accepted : (s : Setting) (a : Picture) → (imageSaid (imageAnswer s a) .number ≡ 0) ↔ Accepted call.ImageCheck Reverse s a []
+pub image-accepted : (s : Setting) (a : Picture) → (meaningOfImage (imageAnswer s a) .number ≡ 0) ↔ Accepted call.ImageCheck Reverse s a []
 unfolding imageAnswer
 image-accepted s a = (
   λ e.
@@ -83,8 +83,8 @@ image-accepted s a = (
       let m = neither (refusalOf call.ImageCheck s) _ (n .0) in
       record { setting = m .0; sizes = m .1; samples = none-there f (n .1) },
   λ k.
-      ap (λ v. imageSaid (imageBy v a) .number) (of-accepted call.ImageCheck Reverse s a [] k)
-      ∙ image-number (verdict.Served (served s)) a,
+      ap (λ v. meaningOfImage (imageBy v a) .number) (of-accepted call.ImageCheck Reverse s a [] k)
+      ∙ image-number (admission.Served (served s)) a,
 )
 
 -- a pixel without a source was named
@@ -131,7 +131,7 @@ module _ (s : Setting) (a : Picture) (k : Accepted call.ImageCheck Reverse s a [
   abbrev made : Picture
   made = picture (a .width) (a .height) (a .width) (plane 0) (plane 1) (plane 2)
 
-  made-long : LongSide (a .width) (a .height) (sideOfPicture made)
+  made-long : LongEnough (a .width) (a .height) (layoutOf made)
   made-long =
       let long : (n : ℕ) → needed (a .width) (a .height) (a .width) ≤ length (plane n) =
       λ n. let e = plane-length (needed (a .width) (a .height) (a .width)) (a .width) (a .width) (a .height) (sample n) in omega arith in

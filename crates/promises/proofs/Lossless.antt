@@ -7,15 +7,15 @@ use native.Mathlib.Omega.{arith}
 use Rattle.sample.specs.Depth.{InsideRGB, InsideYCC}
 use Rattle.sample.specs.declared.Pixel.{Pixel}
 use Rattle.sample.proofs.Choices.{cannot}
-use Rattle.setting.specs.Refusals.{depths, served, judged, refusalOf}
+use Rattle.setting.specs.Rules.{depths, served, judged, refusalOf}
 use Rattle.setting.specs.declared.Call.the-variants as call
 use Rattle.setting.specs.declared.Setting.{Setting}
-use Rattle.pixel.specs.Pixel.{convert}
-use Rattle.pixel.specs.Source.{HasSource, hasSource}
-use Rattle.pixel.specs.declared.Way.the-variants.{Forward, Reverse}
-use Rattle.pixel.proofs.ReadyLaws.{ready, is-lossless}
-use Rattle.pixel.proofs.PixelTheorems.{trip, one-to-one, tested, has-source}
-use Rattle.corkplover.specs.Admit.{admitted}
+use Rattle.plan.specs.Conversion.{convert}
+use Rattle.plan.specs.Source.{HasSource, hasSource}
+use Rattle.setting.specs.declared.Way.the-variants.{Forward, Reverse}
+use Rattle.setting.proofs.ReadyLaws.{ready, is-lossless}
+use Rattle.plan.proofs.ConversionTheorems.{trip, one-to-one, tested, has-source}
+use Rattle.admit.specs.Rules.{admitted}
 use Rattle.corkplover.specs.Answers.{sourceAnswer}
 use Rattle.corkplover.specs.declared.pixels.SourceAnswer.the-variants as source
 use Rattle.promises.proofs.Accepted.{no-bad}

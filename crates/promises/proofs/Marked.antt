@@ -6,18 +6,18 @@ use Prim.Native.Nat.{ℕ}
 use Rattle.rounding.specs.Rounding.{half, round, clip, sample}
 use Rattle.sample.specs.Depth.{isDepth, areDepths, atMost}
 use Rattle.sample.specs.declared.Pixel.{Pixel}
-use Rattle.refusal.specs.Table.{first}
+use Rattle.refusal.specs.Rules.{first}
 use Rattle.planes.specs.First.{orFound, firstOf, placeIf, placeInRow, firstPlace, firstBad, badSample}
 use Rattle.ycgco.specs.YCgCo.{lossyForward, lossyReverse, losslessForward, losslessReverse}
 use Rattle.levels.specs.Luma.{lumaForward, lumaReverse}
 use Rattle.setting.specs.Label.{among, labelled}
 use Rattle.setting.specs.Matrix.{matrixOf}
 use Rattle.setting.specs.Agreement.{depthsServed}
-use Rattle.setting.specs.Refusals.{refusalOf, judged}
+use Rattle.setting.specs.Rules.{refusalOf, judged}
 use Rattle.setting.specs.declared.Setting.{Setting}
-use Rattle.pixel.specs.Pixel.{convert}
-use Rattle.pixel.specs.declared.Way.the-variants.{Forward, Reverse}
-use Rattle.corkplover.specs.Admit.{admitted}
+use Rattle.plan.specs.Conversion.{convert}
+use Rattle.setting.specs.declared.Way.the-variants.{Forward, Reverse}
+use Rattle.admit.specs.Rules.{admitted}
 use Rattle.corkplover.specs.Answers.{pixelAnswer}
 use Rattle.corkplover.specs.declared.pixels.PixelAnswer.{PixelAnswer}
 use Rattle.corkplover.specs.declared.pixels.PixelAnswer.the-variants.{Converted}

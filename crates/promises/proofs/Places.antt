@@ -1,126 +1,160 @@
--- A refusal of 10 names the first bad sample, any other refusal names no place, and no refusal gives anything else. It is shown once of a
--- verdict, whatever was searched for a bad sample, and then read off each answer on a pixel or a sample.
-use mathlib.Core.Path.{_≡_, refl, sym, subst}
+-- A refusal of 10 names the first bad sample, any other refusal names no place, and no refusal gives anything else. It is shown once of any
+-- call's rules, and then read off each answer.
+use mathlib.Core.Path.{_≡_, refl, sym, ap, _∙_, subst}
 use mathlib.Core.Bool.{Bool, true, false, cond}
 use mathlib.Core.List.{List, [], _∷_}
-use Prim.Native.Nat.{ℕ, zero, suc, _<_}
+use Prim.Native.Nat.{ℕ}
 use native.Mathlib.Omega.{arith}
-use borrow.Author.Tests.{eqb-false, ne-eqb}
+use borrow.Author.Tests.{eqb-false}
 use lib.Dec.{eqb}
+use Rattle.sample.specs.Depth.{tops}
 use Rattle.sample.specs.declared.Pixel.{Pixel}
-use Rattle.refusal.specs.Table.{TableRow, first, Without, plain, badAt, nowhere}
+use Rattle.sample.specs.declared.Side.{Side}
+use Rattle.sample.specs.declared.Side.the-variants.{Ycc}
+use Rattle.refusal.specs.Rules.{Rule, first, nowhere}
+use Rattle.refusal.specs.declared.Check.{Check}
+use Rattle.refusal.specs.declared.Check.the-variants as check
 use Rattle.refusal.specs.declared.Place.{Place}
 use Rattle.refusal.specs.declared.Refusal.{Refusal}
-use Rattle.planes.specs.First.{IsBadSample, IsFirstBad}
-use Rattle.planes.specs.declared.search.Found.{Found}
-use Rattle.planes.specs.declared.search.Found.the-variants as found
-use Rattle.planes.proofs.SearchTheorems.{at-in-planes-means, at-means}
-use Rattle.setting.specs.Refusals.{depths, table, refusalOf, served, judged}
+use Rattle.refusal.proofs.RuleLaws.{never-both, same-refusal}
+use Rattle.setting.specs.Call.{inputOf}
+use Rattle.setting.specs.Rules.{depths, served, settingRules, admitted}
 use Rattle.setting.specs.declared.Call.{Call}
 use Rattle.setting.specs.declared.Call.the-variants as call
 use Rattle.setting.specs.declared.Setting.{Setting}
-use Rattle.setting.specs.declared.verdict.Served.{Served}
-use Rattle.setting.specs.declared.verdict.Verdict.{Verdict}
-use Rattle.setting.specs.declared.verdict.Verdict.the-variants as verdict
+use Rattle.setting.specs.declared.Way.{Way}
+use Rattle.setting.specs.declared.admission.Admission.{Admission}
+use Rattle.setting.specs.declared.admission.Admission.the-variants as admission
+use Rattle.setting.specs.declared.admission.Served.{Served}
 use Rattle.meter.specs.Level.{planeNumber}
 use Rattle.meter.specs.declared.SampleKind.{SampleKind}
-use Rattle.pixel.specs.Pixel.{callOf, tops}
-use Rattle.pixel.specs.Source.{hasSource}
-use Rattle.pixel.specs.declared.Way.{Way}
-use Rattle.pixel.specs.declared.Way.the-variants.{Reverse}
-use Rattle.picture.specs.Verdict.{pastServed, past}
-use Rattle.corkplover.specs.Admit.{topOf, badPixel, badOne, admitted, admittedOne}
+use Rattle.planes.specs.First.{badRule, IsBadSample, IsFirstBad}
+use Rattle.planes.specs.Picture.{Picture, layoutOf}
+use Rattle.planes.specs.Sizes.{sizeRules}
+use Rattle.planes.specs.declared.search.Found.{Found}
+use Rattle.planes.specs.declared.search.Found.the-variants as found
+use Rattle.planes.specs.declared.size.Layout.{Layout}
+use Rattle.planes.proofs.SearchTheorems.{at-in-planes-means, at-means}
+use Rattle.plan.specs.Source.{hasSource}
+use Rattle.admit.specs.Rules.{callAdmission, pixelPicture, topOf}
+use Rattle.admit.proofs.AdmitLaws.{by-setting, by-size, by-sample}
+use Rattle.frame.specs.Frame.{frameBy, frameAnswer}
+use Rattle.image_check.specs.Image.{firstFailing, imageBy, imageAnswer}
 use Rattle.corkplover.specs.Answers.{convertedBy, pixelAnswer, sourceBy, sourceAnswer, readBy, reading, levelsBy, levelsAnswer}
-use Rattle.corkplover.specs.Said.{Said, saidRefusal, pixelSaid, sourceSaid, readingSaid, levelsSaid}
-use Rattle.promises.proofs.Refusals.{picked-number}
+use Rattle.corkplover.specs.Meaning.{Meaning, meaningRefusal, meaningOfPixel, meaningOfSource, meaningOfReading, meaningOfLevels, meaningOfFrame, meaningOfImage}
+use Rattle.promises.proofs.Refusals.{picked-number, found-number}
 
 -- no samples, no levels and no word on a source
-abbrev pub GivesNothing : Said → Type 0
-GivesNothing said = (said .samples ≡ []) × ((said .levels ≡ []) × (said .source ≡ []))
+abbrev pub GivesNothing : Meaning → Type 0
+GivesNothing m = (m .samples ≡ []) × ((m .levels ≡ []) × (m .source ≡ []))
 
 -- what an answer may say beside its number, where Bad tells a first bad sample
-pub record Told (Bad : Place → Type 0) (said : Said) : Type 0 where
-  pub ten : said .number ≡ 10 → Bad (said .place)
-  pub other : (said .number ≡ 0 → ⊥) → (said .number ≡ 10 → ⊥) → said .place ≡ nowhere
-  pub alone : (said .number ≡ 0 → ⊥) → GivesNothing said
+pub record NamesPlace (Bad : Place → Type 0) (m : Meaning) : Type 0 where
+  pub ten : m .number ≡ 10 → Bad (m .place)
+  pub other : (m .number ≡ 0 → ⊥) → (m .number ≡ 10 → ⊥) → m .place ≡ nowhere
+  pub alone : (m .number ≡ 0 → ⊥) → GivesNothing m
 
--- an answer that is no refusal is not spoken of
-free-told : (Bad : Place → Type 0) (said : Said) → said .number ≡ 0 → Told Bad said
-free-told Bad said e =
-    record { ten = λ t. absurd (omega arith); other = λ t u. absurd (t e); alone = λ t. absurd (t e) }
+-- rules that are not rule 10 and name no place
+abbrev Placeless : List Rule → Type 0
+Placeless [] = Unit
+Placeless (r ∷ rs) = ((eqb (r .refusal .number) 10 ≡ false) × (r .refusal .place ≡ nowhere)) × Placeless rs
 
-module _ (Bad : Place → Type 0) (f : Found) (means : (place : Place) → f ≡ found.At place → Bad place)
-    (say : Verdict → Said) (free : (x : Served) → say (verdict.Served x) .number ≡ 0)
-    (refuses : (r : Refusal) → say (verdict.Refused r) ≡ saidRefusal r) (x : Served)
-  where
-    by-found : (g : Found) → f ≡ g → Told Bad (say (pastServed x g))
-    by-found (found.At place) e =
-        subst (Told Bad) (sym (refuses (badAt place)))
-        (record { ten = λ t. means place e; other = λ t u. absurd (u refl); alone = λ t. (refl, (refl, refl)) })
-    by-found found.Nothing e = free-told Bad (say (verdict.Served x)) (free x)
+record Other (x : Refusal) : Type 0 where
+  not-10 : eqb (x .number) 10 ≡ false
+  no-place : x .place ≡ nowhere
 
-    -- of the rows before row 10, the number of the first that applies; then row 10
-    pub verdict-told : (n : ℕ) → (n ≡ 10 → ⊥) → Told Bad (say (past (judged n x) f))
-    unfolding judged
-    verdict-told zero h = by-found f refl
-    verdict-told (suc n) h =
-        rw (ne-eqb (suc n) 0 (λ e. omega arith))
-        (subst (Told Bad) (sym (refuses (plain (suc n))))
-        (record { ten = λ t. absurd (h t); other = λ t u. refl; alone = λ t. (refl, (refl, refl)) }))
+other-step : (r : Rule) (t : Bool) (c : Check) (x : Refusal) → Other (r .refusal) → (c ≡ check.Refused x → Other x)
+    → cond t (check.Refused (r .refusal)) c ≡ check.Refused x → Other x
+other-step r true c x h f e = subst Other (same-refusal e) h
+other-step r false c x h f e = f e
 
--- a number that no row has is not given
-not-here : (n k m : ℕ) (t : Bool) → eqb k n ≡ false → (m ≡ n → ⊥) → cond t k m ≡ n → ⊥
-not-here n k m true h f e = eqb-false k n h e
-not-here n k m false h f e = f e
-
-pub not-given : (n : ℕ) (rs : List TableRow) → 0 < n → Without n rs → first rs ≡ n → ⊥
+others : (rs : List Rule) (x : Refusal) → Placeless rs → first rs ≡ check.Refused x → Other x
 unfolding first
-not-given n [] p h e = omega arith
-not-given n (r ∷ rs) p h e = not-here n (r .number) (first rs) (r .applies) (h .0) (not-given n rs p (h .1)) e
+others [] x h e = absurd (never-both x e)
+others (r ∷ rs) x h e = other-step r (r .applies) (first rs) x (record { not-10 = h .0 .0; no-place = h .0 .1 }) (others rs x (h .1)) e
 
--- the rows on a setting do not say 10
-not-by-setting : (c : Call) (s : Setting) → refusalOf c s ≡ 10 → ⊥
-unfolding refusalOf
-not-by-setting c s e = not-given 10 (table c s) (omega arith) (refl, (refl, (refl, (refl, (refl, (refl, (refl, (refl, tt)))))))) e
+setting-others : (c : Call) (s : Setting) → Placeless (settingRules c s)
+setting-others c s =
+    ((refl, refl), ((refl, refl), ((refl, refl), ((refl, refl), ((refl, refl), ((refl, refl), ((refl, refl), ((refl, refl), tt))))))))
 
--- row 10 on a pixel, as a fact: the lowest plane whose sample is above its largest; and on one sample, by its kind
-abbrev pub BadPixel : Way → Setting → Pixel → Place → Type 0
-BadPixel w s p =
-    IsBadSample ((p .p0 ∷ []) ∷ (p .p1 ∷ []) ∷ (p .p2 ∷ []) ∷ []) 1 1 1
-    (tops w (depths s) .p0 ∷ tops w (depths s) .p1 ∷ tops w (depths s) .p2 ∷ [])
+module _ (say : Admission → Meaning) (free : (x : Served) → say (admission.Served x) .number ≡ 0)
+    (refuses : (r : Refusal) → say (admission.Refused r) ≡ meaningRefusal r) (Bad : Place → Type 0)
+  where
+    served-names : (x : Served) → NamesPlace Bad (say (admission.Served x))
+    served-names x =
+        let e = free x in
+        record { ten = λ t. absurd (omega arith); other = λ t u. absurd (t e); alone = λ t. absurd (t e) }
+
+    other-names : (r : Refusal) → Other r → NamesPlace Bad (say (admission.Refused r))
+    other-names r o =
+        subst (NamesPlace Bad) (sym (refuses r))
+        (record { ten = λ t. absurd (eqb-false _ _ (o .not-10) t); other = λ t u. o .no-place; alone = λ t. (refl, (refl, refl)) })
+
+    module _ (c : Call) (s : Setting) (sizes : List Rule) (h : Placeless sizes) (bad : Found) (means : (place : Place) → bad ≡ found.At place → Bad place) where
+      by-bad : (f : Found) → bad ≡ f → NamesPlace Bad (say (admitted (first (badRule f ∷ [])) (served s)))
+      unfolding first
+      by-bad (found.At place) e =
+          subst (NamesPlace Bad) (sym (refuses _))
+          (record { ten = λ t. means place e; other = λ t u. absurd (u refl); alone = λ t. (refl, (refl, refl)) })
+      by-bad found.Nothing e = served-names (served s)
+
+      abbrev Answer : Type 0
+      Answer = NamesPlace Bad (say (callAdmission c s sizes bad))
+
+      past-setting : first (settingRules c s) ≡ check.Passed → (k : Check) → first sizes ≡ k → Answer
+      past-setting e check.Passed f = subst (λ v. NamesPlace Bad (say v)) (by-sample c s sizes bad e f) (by-bad bad refl)
+      past-setting e (check.Refused r) f = subst (λ v. NamesPlace Bad (say v)) (by-size c s sizes bad r e f) (other-names r (others sizes r h f))
+
+      by-rules : (k : Check) → first (settingRules c s) ≡ k → Answer
+      by-rules check.Passed e = past-setting e (first sizes) refl
+      by-rules (check.Refused r) e = subst (λ v. NamesPlace Bad (say v)) (by-setting c s sizes bad r e) (other-names r (others (settingRules c s) r (setting-others c s) e))
+
+      pub names-place : Answer
+      names-place = by-rules (first (settingRules c s)) refl
+
+-- rule 10 on a picture and on a pixel of a side, as a fact; and on one sample, by its kind
+abbrev pub BadIn : Side → Setting → Picture → Place → Type 0
+BadIn side s a = IsBadSample a (tops side (depths s))
+
+abbrev pub BadPixel : Side → Setting → Pixel → Place → Type 0
+BadPixel side s p = BadIn side s (pixelPicture p)
 
 abbrev pub BadSampleOf : SampleKind → Setting → ℕ → Place → Type 0
 BadSampleOf k s v = IsFirstBad (v ∷ []) (planeNumber k) 1 1 1 (topOf k (depths s))
 
-bad-pixel : (w : Way) (s : Setting) (p : Pixel) (place : Place) → badPixel w (depths s) p ≡ found.At place → BadPixel w s p place
-bad-pixel w s p place e = at-in-planes-means _ 1 1 1 _ place .0 e
-
-bad-one : (k : SampleKind) (s : Setting) (v : ℕ) (place : Place) → badOne k (depths s) v ≡ found.At place → BadSampleOf k s v place
-bad-one k s v place e = at-means (v ∷ []) (planeNumber k) 1 1 1 (topOf k (depths s)) place .0 e
-
--- each call on a pixel, and the meter of one sample
-module _ (c : Call) (w : Way) (s : Setting) (p : Pixel) (say : Verdict → Said) (free : (x : Served) → say (verdict.Served x) .number ≡ 0)
-    (refuses : (r : Refusal) → say (verdict.Refused r) ≡ saidRefusal r)
-  where
-    on-pixel : Told (BadPixel w s p) (say (admitted c w s p))
-    unfolding admitted
-    on-pixel =
-        verdict-told (BadPixel w s p) (badPixel w (depths s) p) (bad-pixel w s p) say free refuses (served s) (refusalOf c s) (not-by-setting c s)
-
-pub pixel-told : (w : Way) (s : Setting) (p : Pixel) → Told (BadPixel w s p) (pixelSaid (pixelAnswer w s p))
+-- each kind of call
+pub pixel-places : (w : Way) (s : Setting) (p : Pixel) → NamesPlace (BadPixel (inputOf w) s p) (meaningOfPixel (pixelAnswer w s p))
 unfolding pixelAnswer
-pixel-told w s p = on-pixel (callOf w) w s p (λ v. pixelSaid (convertedBy w p v)) (λ x. refl) (λ r. refl)
+pixel-places w s p =
+    names-place (λ v. meaningOfPixel (convertedBy w p v)) (λ x. refl) (λ r. refl) _ (call.Convert w) s [] tt _
+    (λ place e. at-in-planes-means (pixelPicture p) _ place .0 e)
 
-pub source-told : (s : Setting) (p : Pixel) → Told (BadPixel Reverse s p) (sourceSaid (sourceAnswer s p))
+pub source-places : (s : Setting) (p : Pixel) → NamesPlace (BadPixel Ycc s p) (meaningOfSource (sourceAnswer s p))
 unfolding sourceAnswer
-source-told s p = on-pixel call.ImageCheck Reverse s p (λ v. sourceSaid (sourceBy p v)) (λ x. picked-number (hasSource x p)) (λ r. refl)
+source-places s p =
+    names-place (λ v. meaningOfSource (sourceBy p v)) (λ x. picked-number (hasSource x p)) (λ r. refl) _ call.ImageCheck s [] tt _
+    (λ place e. at-in-planes-means (pixelPicture p) _ place .0 e)
 
-pub levels-told : (s : Setting) (p : Pixel) → Told (BadPixel Reverse s p) (levelsSaid (levelsAnswer s p))
+pub levels-places : (s : Setting) (p : Pixel) → NamesPlace (BadPixel Ycc s p) (meaningOfLevels (levelsAnswer s p))
 unfolding levelsAnswer
-levels-told s p = on-pixel call.Meter Reverse s p (λ v. levelsSaid (levelsBy p v)) (λ x. refl) (λ r. refl)
+levels-places s p =
+    names-place (λ v. meaningOfLevels (levelsBy p v)) (λ x. refl) (λ r. refl) _ call.Meter s [] tt _
+    (λ place e. at-in-planes-means (pixelPicture p) _ place .0 e)
 
-pub reading-told : (k : SampleKind) (s : Setting) (v : ℕ) → Told (BadSampleOf k s v) (readingSaid (reading k s v))
-unfolding reading admittedOne
-reading-told k s v =
-    verdict-told (BadSampleOf k s v) (badOne k (depths s) v) (bad-one k s v) (λ d. readingSaid (readBy k v d)) (λ x. refl) (λ r. refl) (served s)
-    (refusalOf call.Meter s) (not-by-setting call.Meter s)
+pub reading-places : (k : SampleKind) (s : Setting) (v : ℕ) → NamesPlace (BadSampleOf k s v) (meaningOfReading (reading k s v))
+unfolding reading
+reading-places k s v =
+    names-place (λ d. meaningOfReading (readBy k v d)) (λ x. refl) (λ r. refl) _ call.Meter s [] tt _
+    (λ place e. at-means (v ∷ []) (planeNumber k) 1 1 1 (topOf k (depths s)) place .0 e)
+
+pub frame-places : (w : Way) (s : Setting) (a : Picture) (b : Layout) → NamesPlace (BadIn (inputOf w) s a) (meaningOfFrame (frameAnswer w s a b))
+unfolding frameAnswer
+frame-places w s a b =
+    names-place (λ v. meaningOfFrame (frameBy v)) (λ x. refl) (λ r. refl) _ (call.Convert w) s (sizeRules (a .width) (a .height) (layoutOf a ∷ b ∷ []))
+    ((refl, refl), ((refl, refl), tt)) _ (λ place e. at-in-planes-means a _ place .0 e)
+
+pub image-places : (s : Setting) (a : Picture) → NamesPlace (BadIn Ycc s a) (meaningOfImage (imageAnswer s a))
+unfolding imageAnswer
+image-places s a =
+    names-place (λ v. meaningOfImage (imageBy v a)) (λ x. found-number (firstFailing (hasSource x) a)) (λ r. refl) _ call.ImageCheck s
+    (sizeRules (a .width) (a .height) (layoutOf a ∷ [])) ((refl, refl), ((refl, refl), tt)) _ (λ place e. at-in-planes-means a _ place .0 e)

@@ -1,115 +1,142 @@
--- Demand 1 on a pixel or a sample: each refusal number is given exactly if its row of the table applies and no earlier one does. It is
--- shown once of what every such call asks at its door, and then read off each answer.
-use mathlib.Core.Path.{_≡_, refl, sym, _∙_}
+-- Demand 1: a refusal is given exactly if its rule applies and no earlier one does. It is shown once of any list of rules, and then read off
+-- each answer.
+use mathlib.Core.Path.{_≡_, refl, sym, ap, _∙_}
 use mathlib.Core.Bool.{Bool, true, false, cond}
-use mathlib.Core.List.{List, [], _∷_}
-use Prim.Native.Nat.{ℕ, zero, suc, _<_}
-use native.Mathlib.Omega.{arith}
-use borrow.Author.Tests.{ne-eqb}
+use mathlib.Core.List.{List, [], _∷_, _++_}
+use mathlib.Core.Logic.{_↔_}
+use Prim.Native.Nat.{ℕ}
+use borrow.Author.Tests.{eqb-false}
+use lib.Dec.{eqb}
 use Rattle.sample.specs.declared.Pixel.{Pixel}
-use Rattle.refusal.specs.Table.{TableRow, row, first, orElse, FirstIs, NoRow, Numbered}
-use Rattle.refusal.proofs.TableLaws.{first-append, is-first, first-is, no-row, row-none}
-use Rattle.planes.specs.declared.search.Found.{Found}
-use Rattle.planes.specs.declared.search.Found.the-variants as found
-use Rattle.setting.specs.Refusals.{depths, served, table, refusalOf, judged, verdictOf}
+use Rattle.refusal.specs.Rules.{Rule, first, FirstIs, NoneApplies}
+use Rattle.refusal.specs.declared.Check.{Check}
+use Rattle.refusal.specs.declared.Check.the-variants as check
+use Rattle.refusal.specs.declared.Refusal.{Refusal}
+use Rattle.refusal.proofs.RuleLaws.{never-both, same-refusal, refused-exactly, passed-exactly}
+use Rattle.setting.specs.Rules.{served, settingRules, admitted}
 use Rattle.setting.specs.declared.Call.{Call}
 use Rattle.setting.specs.declared.Call.the-variants as call
 use Rattle.setting.specs.declared.Setting.{Setting}
-use Rattle.setting.specs.declared.verdict.Served.{Served}
-use Rattle.setting.specs.declared.verdict.Verdict.{Verdict}
-use Rattle.setting.specs.declared.verdict.Verdict.the-variants as verdict
+use Rattle.setting.specs.declared.Way.{Way}
+use Rattle.setting.specs.declared.admission.Admission.{Admission}
+use Rattle.setting.specs.declared.admission.Admission.the-variants as admission
+use Rattle.setting.specs.declared.admission.Served.{Served}
 use Rattle.meter.specs.declared.SampleKind.{SampleKind}
-use Rattle.pixel.specs.Pixel.{callOf}
-use Rattle.pixel.specs.Source.{hasSource}
-use Rattle.pixel.specs.declared.Way.{Way}
-use Rattle.pixel.specs.declared.Way.the-variants.{Reverse}
-use Rattle.picture.specs.Verdict.{past}
-use Rattle.corkplover.specs.Admit.{badPixel, badOne, admitted, admittedOne}
+use Rattle.planes.specs.First.{badRule}
+use Rattle.planes.specs.Picture.{Picture, layoutOf}
+use Rattle.planes.specs.Sizes.{sizeRules}
+use Rattle.planes.specs.declared.search.Found.{Found}
+use Rattle.planes.specs.declared.search.Found.the-variants as found
+use Rattle.planes.specs.declared.size.Layout.{Layout}
+use Rattle.plan.specs.Source.{hasSource}
+use Rattle.admit.specs.Rules.{callRules, callAdmission, pictureRules, pixelRules, sampleRules}
+use Rattle.frame.specs.Frame.{frameBy, frameAnswer}
+use Rattle.image_check.specs.Image.{firstFailing, answerFound, imageBy, imageAnswer}
 use Rattle.corkplover.specs.Answers.{convertedBy, pixelAnswer, sourceBy, sourceAnswer, readBy, reading, levelsBy, levelsAnswer}
-use Rattle.corkplover.specs.Said.{pixelSaid, sourceSaid, readingSaid, levelsSaid}
+use Rattle.corkplover.specs.Meaning.{Meaning, meaningRefusal, meaningOfPixel, meaningOfSource, meaningOfReading, meaningOfLevels, meaningOfFrame, meaningOfImage}
 use Rattle.corkplover.specs.declared.pixels.SourceAnswer.the-variants as source
-use Rattle.promises.specs.Tables.{isFound, thenBad, pixelTable, sampleTable}
 
--- the number of a verdict: 0 for a setting that is served
-abbrev pub number : Verdict → ℕ
-number (verdict.Served x) = 0
-number (verdict.Refused r) = r .number
+-- what an answer means, held to a list of rules
+pub record RefusedBy (m : Meaning) (rules : List Rule) : Type 0 where
+  pub refusal : Refusal
+  pub is-first : FirstIs refusal rules
+  pub is : m ≡ meaningRefusal refusal
 
-numbered : (c : Call) (s : Setting) → Numbered (table c s)
-numbered c s = (refl, (refl, (refl, (refl, (refl, (refl, (refl, (refl, tt))))))))
+pub record Exactly (m : Meaning) (rules : List Rule) : Type 0 where
+  pub given : (m .number ≡ 0 → ⊥) → RefusedBy m rules
+  pub only : {x : Refusal} → FirstIs x rules → m ≡ meaningRefusal x
+  pub accepted : m .number ≡ 0 → NoneApplies rules
+  pub free : NoneApplies rules → m .number ≡ 0
 
--- a verdict's number, past row 10
-pub past-number : (n : ℕ) (x : Served) (f : Found) → number (past (judged n x) f) ≡ orElse n (first (row 10 (isFound f) ∷ []))
-unfolding judged first
-past-number zero x (found.At place) = refl
-past-number zero x found.Nothing = refl
-past-number (suc n) x f = rw (ne-eqb (suc n) 0 (λ e. omega arith))
+-- rules whose numbers are not 0
+abbrev Numbered : List Rule → Type 0
+Numbered [] = Unit
+Numbered (r ∷ rs) = (eqb (r .refusal .number) 0 ≡ false) × Numbered rs
 
--- is the first row of the whole table that applies
-door-number : (c : Call) (s : Setting) (f : Found) → number (past (verdictOf c s) f) ≡ first (thenBad (table c s) f)
-unfolding refusalOf
-door-number c s f = past-number (refusalOf c s) (served s) f ∙ sym (first-append (table c s) (row 10 (isFound f) ∷ []) (numbered c s))
+number-step : (r : Rule) (t : Bool) (c : Check) (x : Refusal) → eqb (r .refusal .number) 0 ≡ false → (c ≡ check.Refused x → x .number ≡ 0 → ⊥)
+    → cond t (check.Refused (r .refusal)) c ≡ check.Refused x → x .number ≡ 0 → ⊥
+number-step r true c x h f e q = eqb-false _ _ h (ap (λ y. y .number) (same-refusal e) ∙ q)
+number-step r false c x h f e q = f e q
 
--- what a claim on an answer's number comes to
-pub record Exactly (said : ℕ) (rows : List TableRow) : Type 0 where
-  pub given : (n : ℕ) → 0 < n → said ≡ n → FirstIs n rows
-  pub only : {n : ℕ} → FirstIs n rows → said ≡ n
-  pub accepted : said ≡ 0 → NoRow rows
-  pub free : NoRow rows → said ≡ 0
+not-zero : (rs : List Rule) (x : Refusal) → Numbered rs → first rs ≡ check.Refused x → x .number ≡ 0 → ⊥
+unfolding first
+not-zero [] x h e q = never-both x e
+not-zero (r ∷ rs) x h e q = number-step r (r .applies) (first rs) x (h .0) (not-zero rs x (h .1)) e q
 
-pub exactly-first : (rows : List TableRow) (said : ℕ) → Numbered rows → said ≡ first rows → Exactly said rows
-exactly-first rows said h q =
-    record {
-      given = λ n p k. is-first rows n p (sym q ∙ k);
-      only = λ k. q ∙ first-is k;
-      accepted = λ k. no-row rows h (sym q ∙ k);
-      free = λ k. q ∙ row-none k;
-    }
+all-numbered : (call : Call) (s : Setting) (sizes : List Rule) (bad : Found) → Numbered sizes → Numbered (callRules call s sizes bad)
+all-numbered call s sizes bad h = (refl, (refl, (refl, (refl, (refl, (refl, (refl, (refl, rest sizes h))))))))
+  where
+    last : (f : Found) → Numbered (badRule f ∷ [])
+    last (found.At place) = (refl, tt)
+    last found.Nothing = (refl, tt)
 
-pub whole-numbered : (rows : List TableRow) (f : Found) → Numbered rows → Numbered (thenBad rows f)
-whole-numbered [] f h = (refl, tt)
-whole-numbered (r ∷ rs) f h = (h .0, whole-numbered rs f (h .1))
+    rest : (rs : List Rule) → Numbered rs → Numbered (rs ++ (badRule bad ∷ []))
+    rest [] h = last bad
+    rest (r ∷ rs) h = (h .0, rest rs (h .1))
 
-exactly : (c : Call) (s : Setting) (f : Found) (said : ℕ) → said ≡ number (past (verdictOf c s) f) → Exactly said (thenBad (table c s) f)
-exactly c s f said e =
-    exactly-first (thenBad (table c s) f) said (whole-numbered (table c s) f (numbered c s)) (e ∙ door-number c s f)
+-- an answer that says of every refusal what it is, and of nothing else that it is one
+module _ (say : Admission → Meaning) (free : (x : Served) → say (admission.Served x) .number ≡ 0)
+    (refuses : (r : Refusal) → say (admission.Refused r) ≡ meaningRefusal r)
+  where
+    by-check : (rules : List Rule) (x : Served) → Numbered rules → (c : Check) → first rules ≡ c → Exactly (say (admitted c x)) rules
+    by-check rules x h check.Passed e =
+        record {
+          given = λ n. absurd (n (free x));
+          only = λ {y} f. absurd (never-both y (sym e ∙ refused-exactly rules y .1 f));
+          accepted = λ n. passed-exactly rules .0 e;
+          free = λ n. free x;
+        }
+    by-check rules x h (check.Refused r) e =
+        record {
+          given = λ n. record { refusal = r; is-first = refused-exactly rules r .0 e; is = refuses r };
+          only = λ {y} f. refuses r ∙ ap meaningRefusal (same-refusal (sym e ∙ refused-exactly rules y .1 f));
+          accepted = λ n. absurd (not-zero rules r h e (sym (ap (λ m. m .number) (refuses r)) ∙ n));
+          free = λ n. absurd (never-both r (sym (passed-exactly rules .1 n) ∙ e));
+        }
 
--- Each answer's number is that of the door.
-converted-number : (w : Way) (p : Pixel) (v : Verdict) → pixelSaid (convertedBy w p v) .number ≡ number v
-converted-number w p (verdict.Served x) = refl
-converted-number w p (verdict.Refused r) = refl
+    exactly : (call : Call) (s : Setting) (sizes : List Rule) (bad : Found) → Numbered sizes
+        → Exactly (say (callAdmission call s sizes bad)) (callRules call s sizes bad)
+    unfolding callAdmission
+    exactly call s sizes bad h = by-check (callRules call s sizes bad) (served s) (all-numbered call s sizes bad h) _ refl
 
-pub picked-number : (b : Bool) → sourceSaid (cond b source.Yes source.NoSource) .number ≡ 0
+-- the source checks' word is no refusal
+pub picked-number : (b : Bool) → meaningOfSource (cond b source.Yes source.NoSource) .number ≡ 0
 picked-number true = refl
 picked-number false = refl
 
-source-number : (p : Pixel) (v : Verdict) → sourceSaid (sourceBy p v) .number ≡ number v
-source-number p (verdict.Served x) = picked-number (hasSource x p)
-source-number p (verdict.Refused r) = refl
+pub found-number : (f : Found) → meaningOfImage (answerFound f) .number ≡ 0
+found-number (found.At place) = refl
+found-number found.Nothing = refl
 
-read-number : (k : SampleKind) (v : ℕ) (d : Verdict) → readingSaid (readBy k v d) .number ≡ number d
-read-number k v (verdict.Served x) = refl
-read-number k v (verdict.Refused r) = refl
+-- Forward and reverse: rules 1 to 7, then 10 (rule 11 never applies to them).
+pub pixel-refusals : (w : Way) (s : Setting) (p : Pixel) → Exactly (meaningOfPixel (pixelAnswer w s p)) (pixelRules (call.Convert w) s p)
+unfolding pixelAnswer
+pixel-refusals w s p = exactly (λ v. meaningOfPixel (convertedBy w p v)) (λ x. refl) (λ r. refl) (call.Convert w) s [] _ tt
 
-levels-number : (p : Pixel) (v : Verdict) → levelsSaid (levelsBy p v) .number ≡ number v
-levels-number p (verdict.Served x) = refl
-levels-number p (verdict.Refused r) = refl
+-- The source check: rules 1 to 7, 11, then 10.
+pub source-refusals : (s : Setting) (p : Pixel) → Exactly (meaningOfSource (sourceAnswer s p)) (pixelRules call.ImageCheck s p)
+unfolding sourceAnswer
+source-refusals s p =
+    exactly (λ v. meaningOfSource (sourceBy p v)) (λ x. picked-number (hasSource x p)) (λ r. refl) call.ImageCheck s [] _ tt
 
--- Forward and reverse: rows 1 to 7, then 10 (row 11 never applies to them).
-pub pixel-refusals : (w : Way) (s : Setting) (p : Pixel) → Exactly (pixelSaid (pixelAnswer w s p) .number) (pixelTable (callOf w) w s p)
-unfolding pixelAnswer admitted
-pixel-refusals w s p = exactly (callOf w) s (badPixel w (depths s) p) _ (converted-number w p (past (verdictOf (callOf w) s) (badPixel w (depths s) p)))
+-- The meter: rules 1 to 7, 11, then 10, of one sample alone or of a pixel.
+pub reading-refusals : (k : SampleKind) (s : Setting) (v : ℕ) → Exactly (meaningOfReading (reading k s v)) (sampleRules k s v)
+unfolding reading
+reading-refusals k s v = exactly (λ d. meaningOfReading (readBy k v d)) (λ x. refl) (λ r. refl) call.Meter s [] _ tt
 
--- The source check: rows 1 to 7, 11, then 10.
-pub source-refusals : (s : Setting) (p : Pixel) → Exactly (sourceSaid (sourceAnswer s p) .number) (pixelTable call.ImageCheck Reverse s p)
-unfolding sourceAnswer admitted
-source-refusals s p = exactly call.ImageCheck s (badPixel Reverse (depths s) p) _ (source-number p (past (verdictOf call.ImageCheck s) (badPixel Reverse (depths s) p)))
+pub levels-refusals : (s : Setting) (p : Pixel) → Exactly (meaningOfLevels (levelsAnswer s p)) (pixelRules call.Meter s p)
+unfolding levelsAnswer
+levels-refusals s p = exactly (λ v. meaningOfLevels (levelsBy p v)) (λ x. refl) (λ r. refl) call.Meter s [] _ tt
 
--- The meter: rows 1 to 7, 11, then 10, of one sample alone or of a pixel.
-pub reading-refusals : (k : SampleKind) (s : Setting) (v : ℕ) → Exactly (readingSaid (reading k s v) .number) (sampleTable k s v)
-unfolding reading admittedOne
-reading-refusals k s v = exactly call.Meter s (badOne k (depths s) v) _ (read-number k v (past (verdictOf call.Meter s) (badOne k (depths s) v)))
+-- Frames: rules 1 to 7, 8 and 9 on both kinds of planes, then 10.
+pub frame-refusals : (w : Way) (s : Setting) (a : Picture) (b : Layout) → Exactly (meaningOfFrame (frameAnswer w s a b)) (pictureRules (call.Convert w) s a (b ∷ []))
+unfolding frameAnswer
+frame-refusals w s a b =
+    exactly (λ v. meaningOfFrame (frameBy v)) (λ x. refl) (λ r. refl) (call.Convert w) s (sizeRules (a .width) (a .height) (layoutOf a ∷ b ∷ [])) _ (refl, (refl, tt))
 
-pub levels-refusals : (s : Setting) (p : Pixel) → Exactly (levelsSaid (levelsAnswer s p) .number) (pixelTable call.Meter Reverse s p)
-unfolding levelsAnswer admitted
-levels-refusals s p = exactly call.Meter s (badPixel Reverse (depths s) p) _ (levels-number p (past (verdictOf call.Meter s) (badPixel Reverse (depths s) p)))
+-- The image check: rules 1 to 7, 11, 8 and 9 on the planes that it reads, then 10.
+pub image-refusals : (s : Setting) (a : Picture) → Exactly (meaningOfImage (imageAnswer s a)) (pictureRules call.ImageCheck s a [])
+unfolding imageAnswer
+image-refusals s a =
+    exactly (λ v. meaningOfImage (imageBy v a)) (λ x. found-number (firstFailing (hasSource x) a)) (λ r. refl) call.ImageCheck s
+    (sizeRules (a .width) (a .height) (layoutOf a ∷ [])) _ (refl, (refl, tt))

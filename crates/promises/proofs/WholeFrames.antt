@@ -7,24 +7,24 @@ use native.Mathlib.Omega.{arith}
 use lib.ListN.{getD}
 use Rattle.rounding.specs.Rounding.{half, clip, sample}
 use Rattle.sample.specs.Depth.{isDepth, areDepths, atMost}
-use Rattle.refusal.specs.Table.{first, at}
+use Rattle.refusal.specs.Rules.{first, at}
 use Rattle.refusal.specs.declared.Place.{Place}
 use Rattle.refusal.specs.declared.Refusal.{Refusal}
 use Rattle.planes.specs.First.{orFound, firstOf, placeIf, placeInRow, firstPlace, firstBad, badSample}
 use Rattle.planes.specs.Plane.{tab, cell, planeOf}
-use Rattle.planes.specs.Sizes.{sideOf, outside, someSide, pictureOutside, anyShort, sideShort, sizeRefusal}
-use Rattle.planes.specs.declared.size.Side.{Side}
+use Rattle.planes.specs.Sizes.{layout, outside, someSide, pictureOutside, anyShort, sideShort, sizeRefusal}
+use Rattle.planes.specs.declared.size.Layout.{Layout}
 use Rattle.ycgco.specs.YCgCo.{losslessForward, losslessReverse}
 use Rattle.setting.specs.Label.{among, labelled}
 use Rattle.setting.specs.Matrix.{matrixOf}
 use Rattle.setting.specs.Agreement.{depthsServed}
-use Rattle.setting.specs.Refusals.{refusalOf, judged}
+use Rattle.setting.specs.Rules.{refusalOf, judged}
 use Rattle.setting.specs.declared.Setting.{Setting}
-use Rattle.pixel.specs.Pixel.{convert}
-use Rattle.pixel.specs.Source.{hasSource}
-use Rattle.pixel.specs.declared.Way.the-variants.{Forward}
-use Rattle.picture.specs.Picture.{Picture, picture}
-use Rattle.picture.specs.Verdict.{pictureVerdict}
+use Rattle.plan.specs.Conversion.{convert}
+use Rattle.plan.specs.Source.{hasSource}
+use Rattle.setting.specs.declared.Way.the-variants.{Forward}
+use Rattle.planes.specs.Picture.{Picture, picture}
+use Rattle.admit.specs.Rules.{pictureVerdict}
 use Rattle.frame.specs.Frame.{frameAnswer, outPlane}
 use Rattle.frame.specs.declared.FrameAnswer.the-variants.{Done, Refused}
 use Rattle.image_check.specs.Image.{imageAnswer}
@@ -36,15 +36,15 @@ abbrev setting : Setting
 setting = with 8 8 8 9 true true
 
 -- the three planes that a forward call leaves
-abbrev left : Setting → Picture → Side → List (List ℕ)
+abbrev left : Setting → Picture → Layout → List (List ℕ)
 left s a b = outPlane 0 Forward s a b ∷ outPlane 1 Forward s a b ∷ outPlane 2 Forward s a b ∷ []
 
 -- the rules' own frame: width 2, height 1, strides 3, and planes of four elements to be written
 abbrev source : Picture
 source = picture 2 1 3 (255 ∷ 0 ∷ 7 ∷ []) (0 ∷ 255 ∷ 7 ∷ []) (0 ∷ 0 ∷ 7 ∷ [])
 
-abbrev output : Side
-output = sideOf 3 4 4 4
+abbrev output : Layout
+output = layout 3 4 4 4
 
 pub whole-answer : frameAnswer Forward setting source output ≡ Done
 unfolding frameAnswer pictureVerdict refusalOf judged first matrixOf labelled among depthsServed areDepths isDepth atMost sizeRefusal pictureOutside outside someSide sideShort anyShort badSample firstBad firstPlace placeInRow placeIf firstOf orFound
@@ -63,7 +63,7 @@ refused-frame = refl
 abbrev tall : Picture
 tall = picture 1 2 1 (255 ∷ 0 ∷ []) (0 ∷ 255 ∷ []) (0 ∷ 0 ∷ [])
 
-pub tall-frame : left setting tall (sideOf 1 2 2 2) ≡ (63 ∷ 127 ∷ []) ∷ (129 ∷ 511 ∷ []) ∷ (511 ∷ 256 ∷ []) ∷ []
+pub tall-frame : left setting tall (layout 1 2 2 2) ≡ (63 ∷ 127 ∷ []) ∷ (129 ∷ 511 ∷ []) ∷ (511 ∷ 256 ∷ []) ∷ []
 unfolding outPlane pictureVerdict refusalOf judged first matrixOf labelled among depthsServed areDepths isDepth atMost sizeRefusal pictureOutside outside someSide sideShort anyShort badSample firstBad firstPlace placeInRow placeIf firstOf orFound planeOf tab cell convert losslessForward half sample
 tall-frame = refl
 
@@ -109,7 +109,7 @@ pub left-on-refusal : element 0 0 (left (with 17 8 8 9 true true) source output)
 left-on-refusal e = omega (arith, e, ap (element 0 0) refused-frame)
 
 -- only the first row converted
-pub first-row-alone : element 0 1 (left setting tall (sideOf 1 2 2 2)) ≡ 0 → ⊥
+pub first-row-alone : element 0 1 (left setting tall (layout 1 2 2 2)) ≡ 0 → ⊥
 first-row-alone e = omega (arith, e, ap (element 0 1) tall-frame)
 
 -- an image check that always says yes, or never

@@ -9,21 +9,21 @@ use Rattle.sample.specs.declared.Pixel.{Pixel}
 use Rattle.refusal.specs.declared.Refusal.{Refusal}
 use Rattle.setting.specs.Label.{among, labelled, labelNumber, primariesLabel, transferLabel, matrixLabel}
 use Rattle.setting.specs.Matrix.{matrixOf}
-use Rattle.pixel.specs.declared.Way.the-variants.{Forward, Reverse}
+use Rattle.setting.specs.declared.Way.the-variants.{Forward, Reverse}
 use Rattle.corkplover.specs.Answers.{pixelAnswer, sourceAnswer}
 use Rattle.corkplover.specs.declared.pixels.SourceAnswer.the-variants as source
-use Rattle.corkplover.specs.Admit.{admitted}
+use Rattle.admit.specs.Rules.{admitted}
 use Rattle.rounding.specs.Rounding.{half, clip, sample}
 use Rattle.sample.specs.Depth.{isDepth, areDepths, atMost}
-use Rattle.refusal.specs.Table.{first}
+use Rattle.refusal.specs.Rules.{first}
 use Rattle.planes.specs.First.{orFound, firstOf, placeIf, placeInRow, firstPlace, firstBad, badSample}
 use Rattle.ycgco.specs.YCgCo.{losslessForward, losslessReverse}
 use Rattle.setting.specs.Agreement.{depthsServed}
-use Rattle.setting.specs.Refusals.{refusalOf, judged}
+use Rattle.setting.specs.Rules.{refusalOf, judged}
 use Rattle.setting.specs.declared.Call.the-variants as call
 use Rattle.setting.specs.declared.Setting.{Setting}
-use Rattle.pixel.specs.Pixel.{convert}
-use Rattle.pixel.specs.Source.{hasSource}
+use Rattle.plan.specs.Conversion.{convert}
+use Rattle.plan.specs.Source.{hasSource}
 use Rattle.corkplover.specs.declared.pixels.PixelAnswer.{PixelAnswer}
 use Rattle.corkplover.specs.declared.pixels.PixelAnswer.the-variants.{Converted, Refused}
 use Rattle.promises.proofs.Marked.{with, pixel, is, marked}

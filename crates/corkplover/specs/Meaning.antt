@@ -1,0 +1,68 @@
+-- What each case of an answer says in the rules' own terms: 0 or the refusal's number, a place, and what else there is.
+use mathlib.Core.Bool.{Bool, true, false}
+use mathlib.Core.List.{List, [], _∷_}
+use Prim.Native.Nat.{ℕ}
+use lib.Ieee.{Float}
+use Rattle.refusal.specs.Rules.{nowhere}
+use Rattle.refusal.specs.declared.Place.{Place}
+use Rattle.refusal.specs.declared.Refusal.{Refusal}
+use Rattle.frame.specs.declared.FrameAnswer.{FrameAnswer}
+use Rattle.frame.specs.declared.FrameAnswer.the-variants as frame
+use Rattle.image_check.specs.declared.ImageAnswer.{ImageAnswer}
+use Rattle.image_check.specs.declared.ImageAnswer.the-variants as image
+use Rattle.corkplover.specs.declared.pixels.PixelAnswer.{PixelAnswer}
+use Rattle.corkplover.specs.declared.pixels.PixelAnswer.the-variants as pixel
+use Rattle.corkplover.specs.declared.pixels.SourceAnswer.{SourceAnswer}
+use Rattle.corkplover.specs.declared.pixels.SourceAnswer.the-variants as source
+use Rattle.corkplover.specs.declared.meters.Reading.{Reading}
+use Rattle.corkplover.specs.declared.meters.Reading.the-variants as meter
+use Rattle.corkplover.specs.declared.meters.LevelsAnswer.{LevelsAnswer}
+use Rattle.corkplover.specs.declared.meters.LevelsAnswer.the-variants as levels
+
+-- the place of a 10 or of a pixel without a source, samples, levels, and the word of a source check: true for yes
+pub record Meaning : Type 0 where
+  pub number : ℕ
+  pub place : Place
+  pub samples : List ℕ
+  pub levels : List Float
+  pub source : List Bool
+
+abbrev pub meaningRefusal : Refusal → Meaning
+meaningRefusal r = record { number = r .number; place = r .place; samples = []; levels = []; source = [] }
+
+-- of what was not refused
+abbrev pub meaningSamples : List ℕ → Meaning
+meaningSamples l = record { number = 0; place = nowhere; samples = l; levels = []; source = [] }
+
+abbrev pub meaningLevels : List Float → Meaning
+meaningLevels l = record { number = 0; place = nowhere; samples = []; levels = l; source = [] }
+
+abbrev pub meaningSource : Bool → Place → Meaning
+meaningSource word place = record { number = 0; place = place; samples = []; levels = []; source = word ∷ [] }
+
+abbrev pub meaningOfPixel : PixelAnswer → Meaning
+meaningOfPixel (pixel.Converted p) = meaningSamples (p .p0 ∷ p .p1 ∷ p .p2 ∷ [])
+meaningOfPixel (pixel.Refused r) = meaningRefusal r
+
+abbrev pub meaningOfSource : SourceAnswer → Meaning
+meaningOfSource source.Yes = meaningSource true nowhere
+meaningOfSource source.NoSource = meaningSource false nowhere
+meaningOfSource (source.Refused r) = meaningRefusal r
+
+abbrev pub meaningOfReading : Reading → Meaning
+meaningOfReading (meter.Level x) = meaningLevels (x ∷ [])
+meaningOfReading (meter.Refused r) = meaningRefusal r
+
+abbrev pub meaningOfLevels : LevelsAnswer → Meaning
+meaningOfLevels (levels.Levels x) = meaningLevels (x .y ∷ x .cb ∷ x .cr ∷ [])
+meaningOfLevels (levels.Refused r) = meaningRefusal r
+
+-- a frame's samples are in its planes
+abbrev pub meaningOfFrame : FrameAnswer → Meaning
+meaningOfFrame frame.Done = meaningSamples []
+meaningOfFrame (frame.Refused r) = meaningRefusal r
+
+abbrev pub meaningOfImage : ImageAnswer → Meaning
+meaningOfImage image.Yes = meaningSource true nowhere
+meaningOfImage (image.NoSource place) = meaningSource false place
+meaningOfImage (image.Refused r) = meaningRefusal r

@@ -1,2 +1,0 @@
--- The refusal table of each call, whole.
-pub mod Tables
