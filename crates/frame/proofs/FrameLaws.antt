@@ -1,20 +1,32 @@
--- The answer and the output planes of a conversion, by its verdict.
-use mathlib.Core.Path.{_≡_}
+-- The answer and the output planes of a conversion, by whether it is let in, and what is then known for the painting.
+use mathlib.Core.Path.{_≡_, sym, ap, _∙_, subst}
+use mathlib.Core.List.{List, [], _∷_}
 use Prim.Native.Nat.{ℕ}
+use Rattle.sample.specs.Depth.{InsideOf}
+use Rattle.sample.specs.declared.Pixel.{Pixel}
 use Rattle.refusal.specs.declared.Refusal.{Refusal}
+use Rattle.setting.specs.Call.{inputOf}
+use Rattle.setting.specs.Ready.{Ready}
+use Rattle.setting.specs.declared.Call.the-variants.{Convert}
 use Rattle.setting.specs.declared.Setting.{Setting}
-use Rattle.setting.specs.declared.verdict.Served.{Served}
-use Rattle.setting.specs.declared.verdict.Verdict.the-variants as verdict
+use Rattle.setting.specs.declared.Way.{Way}
+use Rattle.setting.specs.declared.admission.Admission.the-variants as admission
+use Rattle.setting.specs.declared.admission.Served.{Served}
+use Rattle.planes.specs.Picture.{Picture, layoutOf, sampleOf, pixelOf, EveryPixel}
 use Rattle.planes.specs.Plane.{zeros}
-use Rattle.planes.specs.declared.size.Side.{Side}
-use Rattle.pixel.specs.declared.Way.{Way}
-use Rattle.picture.specs.Picture.{Picture}
-use Rattle.frame.specs.Frame.{frameVerdict, frameAnswer, convertedPlane, lengthOf, outPlane}
+use Rattle.planes.specs.Sizes.{Fits}
+use Rattle.planes.specs.declared.size.Layout.{Layout}
+use Rattle.planes.proofs.PlaneTheorems.{plane-same}
+use Rattle.plan.specs.Conversion.{convert}
+use Rattle.plan.specs.Plan.{planned, Roomy, Takes, Plans}
+use Rattle.plan.specs.declared.Plan.{Plan}
+use Rattle.admit.proofs.Accepted.{accepted-of, is-ready, all-fit, pixels-inside}
+use Rattle.frame.specs.Frame.{frameAdmission, frameAnswer, madePlane, convertedPlane, lengthOf, outPlane, FrameAfter, MadePlanes}
 use Rattle.frame.specs.declared.FrameAnswer.the-variants.{Done, Refused}
 
-module _ (way : Way) (s : Setting) (a : Picture) (b : Side) where
+module _ (way : Way) (s : Setting) (a : Picture) (b : Layout) where
   -- a call that nothing refuses
-  module _ (x : Served) (e : frameVerdict way s a b ≡ verdict.Served x) where
+  module _ (x : Served) (e : frameAdmission way s a b ≡ admission.Served x) where
     pub done : frameAnswer way s a b ≡ Done
     unfolding frameAnswer
     done = rw e
@@ -23,8 +35,26 @@ module _ (way : Way) (s : Setting) (a : Picture) (b : Side) where
     unfolding outPlane
     plane-done k = rw e
 
+    pub all-ready : Ready x
+    all-ready = let k = accepted-of (Convert way) s _ _ x e in subst Ready (k .1) (is-ready _ _ _ _ (k .0))
+
+    -- by a plan of the conversion
+    module _ (plan : Plan) (h : Plans (convert way x) (inputOf way) (x .depths) plan) where
+      pub paintable : Roomy plan × (Fits (a .width) (a .height) (layoutOf a) × (Fits (a .width) (a .height) b × EveryPixel (Takes plan) a))
+      paintable =
+          let k = accepted-of (Convert way) s _ _ x e in
+          let f = all-fit (Convert way) s a (b ∷ []) (k .0) in
+          let inside = subst (λ (y : Served). EveryPixel (InsideOf (inputOf way) (y .depths)) a) (k .1) (pixels-inside (Convert way) s a (b ∷ []) (k .0)) in
+          (h .roomy, (f .0, (f .1 .0, λ j i p q. h .takes _ (inside j i p q))))
+
+      made : (k : ℕ) {q : List ℕ} → q ≡ madePlane k (planned plan) a (b .stride) (lengthOf k b) → q ≡ outPlane k way s a b
+      made k m = m ∙ plane-same _ _ _ _ _ _ (λ j i _ _. ap (sampleOf k) (h .is (pixelOf a j i))) ∙ sym (plane-done k)
+
+      pub painted : {q0 q1 q2 : List ℕ} → MadePlanes (planned plan) a b q0 q1 q2 → FrameAfter way s a b Done q0 q1 q2
+      painted m = (sym done, (made 0 (m .0), (made 1 (m .1 .0), made 2 (m .1 .1))))
+
   -- a call that is refused
-  module _ (r : Refusal) (e : frameVerdict way s a b ≡ verdict.Refused r) where
+  module _ (r : Refusal) (e : frameAdmission way s a b ≡ admission.Refused r) where
     pub refused : frameAnswer way s a b ≡ Refused r
     unfolding frameAnswer
     refused = rw e
@@ -32,3 +62,7 @@ module _ (way : Way) (s : Setting) (a : Picture) (b : Side) where
     pub plane-refused : (k : ℕ) → outPlane k way s a b ≡ zeros (lengthOf k b)
     unfolding outPlane
     plane-refused k = rw e
+
+    pub zeroed : {q0 q1 q2 : List ℕ} → (q0 ≡ zeros (b .n0)) × ((q1 ≡ zeros (b .n1)) × (q2 ≡ zeros (b .n2)))
+        → FrameAfter way s a b (Refused r) q0 q1 q2
+    zeroed z = (sym refused, (z .0 ∙ sym (plane-refused 0), (z .1 .0 ∙ sym (plane-refused 1), z .1 .1 ∙ sym (plane-refused 2))))

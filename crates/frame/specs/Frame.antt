@@ -4,69 +4,90 @@ use mathlib.Core.Path.{_≡_}
 use mathlib.Core.List.{List, [], _∷_}
 use Prim.Native.Nat.{ℕ, _+_, _-_}
 use lib.ListN.{getD, take, drop}
+use Rattle.sample.specs.declared.Pixel.{Pixel}
+use Rattle.setting.specs.declared.Call.the-variants.{Convert}
 use Rattle.setting.specs.declared.Setting.{Setting}
-use Rattle.setting.specs.declared.verdict.Served.{Served}
-use Rattle.setting.specs.declared.verdict.Verdict.{Verdict}
-use Rattle.setting.specs.declared.verdict.Verdict.the-variants as verdict
-use Rattle.planes.specs.Plane.{zeros, planeOf}
-use Rattle.planes.specs.Sizes.{sideOf}
-use Rattle.planes.specs.declared.size.Side.{Side}
-use Rattle.pixel.specs.Pixel.{callOf, convert}
-use Rattle.pixel.specs.declared.Way.{Way}
-use Rattle.picture.specs.Picture.{Picture, picture, pixelOf}
-use Rattle.picture.specs.Verdict.{pictureVerdict}
-use Rattle.row.specs.Row.{sampleOf}
+use Rattle.setting.specs.declared.Way.{Way}
+use Rattle.setting.specs.declared.admission.Admission.{Admission}
+use Rattle.setting.specs.declared.admission.Admission.the-variants as admission
+use Rattle.setting.specs.declared.admission.Served.{Served}
+use Rattle.planes.specs.Picture.{Picture, picture, pixelOf, sampleOf}
+use Rattle.planes.specs.Plane.{zeros, planeOf, patched}
+use Rattle.planes.specs.Sizes.{layout}
+use Rattle.planes.specs.declared.size.Layout.{Layout}
+use Rattle.plan.specs.Conversion.{convert}
+use Rattle.convert.specs.Row.{rowOf}
+use Rattle.admit.specs.Rules.{pictureAdmission}
 use Rattle.frame.specs.declared.Size.{Size}
 use Rattle.frame.specs.declared.FrameAnswer.{FrameAnswer}
 use Rattle.frame.specs.declared.FrameAnswer.the-variants.{Done, Refused}
 
--- the picture that is read, and the side that is written
-abbrev pub sourceOf : Size → List ℕ → List ℕ → List ℕ → Picture
-sourceOf z p0 p1 p2 = picture (z .width) (z .height) (z .«source_stride») p0 p1 p2
+-- the picture that is read, and the layout of the planes that are written
+abbrev pub inputPicture : Size → List ℕ → List ℕ → List ℕ → Picture
+inputPicture z p0 p1 p2 = picture (z .width) (z .height) (z .«input_stride») p0 p1 p2
 
-abbrev pub outputOf : Size → ℕ → ℕ → ℕ → Side
-outputOf z n0 n1 n2 = sideOf (z .«output_stride») n0 n1 n2
+abbrev pub outputLayout : Size → ℕ → ℕ → ℕ → Layout
+outputLayout z n0 n1 n2 = layout (z .«output_stride») n0 n1 n2
 
--- the verdict on a conversion of picture a into planes of side b
-abbrev pub frameVerdict : Way → Setting → Picture → Side → Verdict
-frameVerdict way s a b = pictureVerdict (callOf way) way s a (b ∷ [])
+-- whether a conversion of picture a into planes of layout b is let in
+abbrev pub frameAdmission : Way → Setting → Picture → Layout → Admission
+frameAdmission way s a b = pictureAdmission (Convert way) s a (b ∷ [])
 
-abbrev pub frameBy : Verdict → FrameAnswer
-frameBy (verdict.Served x) = Done
-frameBy (verdict.Refused r) = Refused r
+abbrev pub frameBy : Admission → FrameAnswer
+frameBy (admission.Served x) = Done
+frameBy (admission.Refused r) = Refused r
 
 -- THE answer of a conversion
-unfoldable pub frameAnswer : Way → Setting → Picture → Side → FrameAnswer
-frameAnswer way s a b = frameBy (frameVerdict way s a b)
+unfoldable pub frameAnswer : Way → Setting → Picture → Layout → FrameAnswer
+frameAnswer way s a b = frameBy (frameAdmission way s a b)
 
--- the sample of plane k at row j and column i, converted
-abbrev pub convertedSample : ℕ → Way → Served → Picture → ℕ → ℕ → ℕ
-convertedSample k way x a j i = sampleOf k (convert way x (pixelOf a j i))
+-- the sample of plane k that f makes of the pixel at row j and column i, and the plane of n elements that it makes of a picture
+abbrev pub madeSample : ℕ → (Pixel → Pixel) → Picture → ℕ → ℕ → ℕ
+madeSample k f a j i = sampleOf k (f (pixelOf a j i))
+
+abbrev pub madePlane : ℕ → (Pixel → Pixel) → Picture → ℕ → ℕ → List ℕ
+madePlane k f a stride n = planeOf n (a .width) (a .height) stride (madeSample k f a)
 
 -- a converted plane of n elements
 abbrev pub convertedPlane : ℕ → Way → Served → Picture → ℕ → ℕ → List ℕ
-convertedPlane k way x a stride n = planeOf n stride (a .width) (a .height) (convertedSample k way x a)
+convertedPlane k way x a stride n = madePlane k (convert way x) a stride n
 
 -- the converted plane where nothing refuses, and else zeros
-abbrev pub planeBy : Verdict → ℕ → Way → Picture → ℕ → ℕ → List ℕ
-planeBy (verdict.Served x) k way a stride n = convertedPlane k way x a stride n
-planeBy (verdict.Refused r) k way a stride n = zeros n
+abbrev pub planeBy : Admission → ℕ → Way → Picture → ℕ → ℕ → List ℕ
+planeBy (admission.Served x) k way a stride n = convertedPlane k way x a stride n
+planeBy (admission.Refused r) k way a stride n = zeros n
 
--- how many elements plane k of a side has
-abbrev pub lengthOf : ℕ → Side → ℕ
+-- how many elements plane k of a layout has
+abbrev pub lengthOf : ℕ → Layout → ℕ
 lengthOf k b = getD (b .n0 ∷ b .n1 ∷ b .n2 ∷ []) k 0
 
 -- THE contents of output plane k after a conversion
-unfoldable pub outPlane : ℕ → Way → Setting → Picture → Side → List ℕ
-outPlane k way s a b = planeBy (frameVerdict way s a b) k way a (b .stride) (lengthOf k b)
+unfoldable pub outPlane : ℕ → Way → Setting → Picture → Layout → List ℕ
+outPlane k way s a b = planeBy (frameAdmission way s a b) k way a (b .stride) (lengthOf k b)
 
--- the three planes that a conversion leaves, and with its answer all that it leaves
-abbrev pub PlanesLeft : Way → Setting → Picture → Side → List ℕ → List ℕ → List ℕ → Type 0
-PlanesLeft way s a b p0 p1 p2 = (p0 ≡ outPlane 0 way s a b) × ((p1 ≡ outPlane 1 way s a b) × (p2 ≡ outPlane 2 way s a b))
+-- the three planes after a conversion, and with its answer all that there is after it
+abbrev pub PlanesAfter : Way → Setting → Picture → Layout → List ℕ → List ℕ → List ℕ → Type 0
+PlanesAfter way s a b p0 p1 p2 = (p0 ≡ outPlane 0 way s a b) × ((p1 ≡ outPlane 1 way s a b) × (p2 ≡ outPlane 2 way s a b))
 
-abbrev pub FrameLeft : Way → Setting → Picture → Side → FrameAnswer → List ℕ → List ℕ → List ℕ → Type 0
-FrameLeft way s a b x p0 p1 p2 = (x ≡ frameAnswer way s a b) × PlanesLeft way s a b p0 p1 p2
+abbrev pub FrameAfter : Way → Setting → Picture → Layout → FrameAnswer → List ℕ → List ℕ → List ℕ → Type 0
+FrameAfter way s a b x p0 p1 p2 = (x ≡ frameAnswer way s a b) × PlanesAfter way s a b p0 p1 p2
+
+-- the three planes of layout b that f makes of a picture
+abbrev pub MadePlanes : (Pixel → Pixel) → Picture → Layout → List ℕ → List ℕ → List ℕ → Type 0
+MadePlanes f a b p0 p1 p2 =
+    (p0 ≡ madePlane 0 f a (b .stride) (b .n0))
+    × ((p1 ≡ madePlane 1 f a (b .stride) (b .n1)) × (p2 ≡ madePlane 2 f a (b .stride) (b .n2)))
 
 -- the part of a plane that is a row of n samples from index a
 abbrev pub rowPart : List ℕ → ℕ → ℕ → List ℕ
 rowPart p a n = take (a + n - a) (drop a p)
+
+-- row k of the three that f makes of such parts of three planes
+abbrev pub partMade : ℕ → (Pixel → Pixel) → ℕ → ℕ → List ℕ → List ℕ → List ℕ → List ℕ
+partMade k f from n a0 a1 a2 = rowOf k f (rowPart a0 from n) (rowPart a1 from n) (rowPart a2 from n)
+
+-- the planes q are the planes p with those rows put in from index `to` on
+abbrev pub RowsPut : (Pixel → Pixel) → ℕ → ℕ → ℕ → (a0 a1 a2 p0 p1 p2 q0 q1 q2 : List ℕ) → Type 0
+RowsPut f from to n a0 a1 a2 p0 p1 p2 q0 q1 q2 =
+    (q0 ≡ patched p0 to (to + n) (partMade 0 f from n a0 a1 a2))
+    × ((q1 ≡ patched p1 to (to + n) (partMade 1 f from n a0 a1 a2)) × (q2 ≡ patched p2 to (to + n) (partMade 2 f from n a0 a1 a2)))

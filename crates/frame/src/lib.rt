@@ -3,18 +3,19 @@ mod paint;
 
 ghost use mathlib.Core.Path.{_≡_};
 ghost use lib.ListN.{length};
-ghost use Rattle.frame.specs.Frame.{sourceOf, outputOf, FrameLeft};
-use pixel::Way;
-use planes::size::Side;
+ghost use Rattle.frame.specs.Frame.{inputPicture, outputLayout, FrameAfter};
+use planes::size::Layout;
 use refusal::Refusal;
+use setting::Call;
 use setting::Setting;
-use setting::verdict::Verdict;
+use setting::Way;
+use setting::admission::Admission;
 
 // The sizes of a picture, and the strides of the planes that are read and of those that are written.
 pub struct Size {
     pub width: usize,
     pub height: usize,
-    pub source_stride: usize,
+    pub input_stride: usize,
     pub output_stride: usize,
 }
 
@@ -35,35 +36,27 @@ pub fn convert_frame(
     b1: &mut [u16],
     b2: &mut [u16],
 ) -> FrameAnswer
-    ensures { λ r. ⌜ FrameLeft way s (sourceOf size (now (a0 .entry)) (now (a1 .entry)) (now (a2 .entry))) (outputOf size (length (now (b0 .entry))) (length (now (b1 .entry))) (length (now (b2 .entry)))) r (now (b0 .exit)) (now (b1 .exit)) (now (b2 .exit)) ⌝ }
+    ensures { λ r. ⌜ FrameAfter way s (inputPicture size (now (a0 .entry)) (now (a1 .entry)) (now (a2 .entry)))
+        (outputLayout size (length (now (b0 .entry))) (length (now (b1 .entry))) (length (now (b2 .entry))))
+        r (now (b0 .exit)) (now (b1 .exit)) (now (b2 .exit)) ⌝ }
 {
     let width = size.width;
     let height = size.height;
-    let source_stride = size.source_stride;
+    let input_stride = size.input_stride;
     let stride = size.output_stride;
-    let output = Side {
+    let call = Call::Convert(way);
+    let output = Layout {
         stride,
         n0: b0.len(),
         n1: b1.len(),
         n2: b2.len(),
     };
-    match picture::judge(
-        pixel::call_of(way),
-        way,
-        s,
-        width,
-        height,
-        source_stride,
-        output,
-        a0,
-        a1,
-        a2,
-    ) {
-        Verdict::Served(served) => {
-            paint::paint(way, served, size, a0, a1, a2, b0, b1, b2);
+    match admit::admit_picture(call, s, width, height, input_stride, output, a0, a1, a2) {
+        Admission::Served(served) => {
+            paint::paint(plan::plan_of(way, served), size, a0, a1, a2, b0, b1, b2);
             FrameAnswer::Done
         }
-        Verdict::Refused(refusal) => {
+        Admission::Refused(refusal) => {
             planes::fill::zero_three(b0, b1, b2);
             FrameAnswer::Refused(refusal)
         }

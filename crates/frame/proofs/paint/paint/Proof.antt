@@ -4,36 +4,37 @@ use Prim.Native.Nat.{_-_}
 use native.Mathlib.Omega.{arith}
 use borrow.Author.Needs.{needs}
 use lib.ListN.{length}
-use Rattle.planes.specs.Sizes.{sideOf}
-use Rattle.planes.specs.declared.size.Side.{Side}
-use Rattle.pixel.specs.Pixel.{InsideSource}
-use Rattle.picture.specs.Picture.{Picture, picture}
-use Rattle.frame.specs.Frame.{sourceOf, outputOf}
-use Rattle.frame.proofs.PaintLaws.{part-every, Painting, painting-none, Turn, source-long, gap-long, row-long, painting-more, rest-long, painting-end}
+use Rattle.planes.specs.Picture.{Picture, picture}
+use Rattle.planes.specs.Sizes.{layout}
+use Rattle.planes.specs.declared.size.Layout.{Layout}
+use Rattle.plan.specs.Plan.{planned, Takes}
+use Rattle.frame.specs.Frame.{inputPicture, outputLayout}
+use Rattle.frame.proofs.PaintLaws.{part-every, Painting, painting-none, Turn, input-long, gap-long, row-long, painting-more, rest-long, painting-end}
 use Rattle.frame.proofs.paint.paint.Statement.{statement}
 use Rattle.frame.proofs.paint.paint.Tie as tie
 
 abbrev Inv-loop : tie.InvT-loop
-Inv-loop way s a0 a1 a2 b0₀ b1₀ b2₀ width height source-stride output-stride prepared done₀ j₀ b0 b1 b2 done j =
-    Painting way s (picture width height source-stride a0 a1 a2) (sideOf output-stride (length b0₀) (length b1₀) (length b2₀)) b0 b1 b2 j done
+Inv-loop plan a0 a1 a2 b0₀ b1₀ b2₀ width height input-stride output-stride done₀ j₀ b0 b1 b2 done j =
+    Painting (planned plan) (picture width height input-stride a0 a1 a2) (layout output-stride (length b0₀) (length b1₀) (length b2₀)) b0 b1 b2 j done
 
 abbrev μ-loop : tie.MeasureT-loop
-μ-loop way s a0 a1 a2 b0₀ b1₀ b2₀ width height source-stride output-stride prepared done₀ j₀ b0 b1 b2 done j = height - j
+μ-loop plan a0 a1 a2 b0₀ b1₀ b2₀ width height input-stride output-stride done₀ j₀ b0 b1 b2 done j = height - j
 
--- the picture that is read, and the side that is written
-abbrev source : tie.Start Inv-loop μ-loop → Picture
-source c = sourceOf (c .args .size) (c .args .a0 .now) (c .args .a1 .now) (c .args .a2 .now)
+-- the picture that is read, and the layout of the planes that are written
+abbrev input : tie.Start Inv-loop μ-loop → Picture
+input c = inputPicture (c .args .size) (c .args .a0 .now) (c .args .a1 .now) (c .args .a2 .now)
 
-abbrev output : tie.Start Inv-loop μ-loop → Side
-output c = outputOf (c .args .size) (length (c .args .b0 .now)) (length (c .args .b1 .now)) (length (c .args .b2 .now))
+abbrev output : tie.Start Inv-loop μ-loop → Layout
+output c = outputLayout (c .args .size) (length (c .args .b0 .now)) (length (c .args .b1 .now)) (length (c .args .b2 .now))
 
 -- a turn, once both starts of its row are known
 turn : (c : tie.After-row-start2 Inv-loop μ-loop)
-    → Turn (c .before .before .before .before .before .before .before .before .before .before .before .args .way) (c .before .before .before .before .before .before .before .before .before .before .before .args .s) (source (c .before .before .before .before .before .before .before .before .before .before .before)) (output (c .before .before .before .before .before .before .before .before .before .before .before)) (c .before .before .before .loop .b0) (c .before .before .before .loop .b1) (c .before .before .before .loop .b2) (c .before .before .before .loop .j) (c .before .before .before .loop .done) (c .before .row-start .result) (c .row-start2 .result)
+    → let s = c .before .before .before .before .before .before .before .before .before .before in
+    let l = c .before .before .before .loop in
+    Turn (planned (s .args .plan)) (input s) (output s) (l .b0) (l .b1) (l .b2) (l .j) (l .done) (c .before .row-start .result) (c .row-start2 .result)
 turn c =
     record {
-      source-side = c .before .before .before .before .before .before .before .before .before .before .before .pre .1 .0;
-      output-side = c .before .before .before .before .before .before .before .before .before .before .before .pre .1 .1 .0;
+      input-fits = c .before .before .before .before .before .before .before .before .before .before .pre .1 .0;
       so-far = c .before .before .before .loop .inv;
       row-inside = c .before .before .loop-test .taken;
       starts-from = c .before .row-start .ensures;
@@ -41,7 +42,7 @@ turn c =
     }
 
 loop-holds : tie.Need-loop-holds Inv-loop μ-loop
-loop-holds c = painting-none _ _ _ _ _ _ _ refl refl refl
+loop-holds c = painting-none _ _ _ (c .before .before .before .before .before .before .pre .1 .1 .0) refl refl refl
 
 zero-gap-requires : tie.Need-zero-gap-requires Inv-loop μ-loop
 zero-gap-requires c κs = let k = gap-long (turn (c .before .before .before)) in omega arith
@@ -49,55 +50,39 @@ zero-gap-requires c κs = let k = gap-long (turn (c .before .before .before)) in
 paint-row-requires : tie.Need-paint-row-requires Inv-loop μ-loop
 paint-row-requires c κs =
     let t = turn (c .before .before .before .before .before .before .before .before .before .before .before .before .before) in
-    let s = c .before .before .before .before .before .before .before .before .before .before .before .before .before .before .before .before .before .before .before .before .before .before .before .before in
-    let x = s .args in
+    let s = c .before .before .before .before .before .before .before .before .before .before .before .before .before .before .before .before .before .before .before .before .before .before .before in
     let kept = c .before .before .before .before .before .before .before .before .before .zero-gap .kept in
-    let long = source-long t in
+    let long = input-long t in
     let room = row-long t _ _ _ (kept .0) (kept .1 .0) (kept .1 .1 .0) in
-    let inside = part-every (source s) (c .before .before .before .before .before .before .before .before .before .before .before .before .before .before .before .before .loop .j) _ (t .starts-from .is) (InsideSource (x .way) (x .s .depths)) (s .pre .1 .1 .1) (t .row-inside) (long .long0) in
-    (s .pre .0, (c .before .before .before .before .before .before .before .before .before .before .before .before .before .before .before .before .before .prepare .ensures, (long, (omega arith, inside))))
+    let taken = part-every (input s) (c .before .before .before .before .before .before .before .before .before .before .before .before .before .before .before .before .loop .j) _ (t .starts-from .is) (Takes (s .args .plan)) (s .pre .1 .1 .1) (t .row-inside) (long .long0) in
+    (s .pre .0, (long, (omega arith, taken)))
 
 add-done : tie.Need-add-done Inv-loop μ-loop
-add-done c = let t = turn (c .before .before .before .before .before .before .before .before .before .before .before .before .before .before .before .before .before .before .before .before) in omega (arith, t .starts-to .most, t .output-side)
+add-done c = let t = turn (c .before .before .before .before .before .before .before .before .before .before .before .before .before .before .before .before .before .before .before .before) in omega (arith, t .starts-to .most, t .so-far .fits)
 
 add-j : tie.Need-add-j Inv-loop μ-loop
-add-j c = let t = turn (c .before .before .before .before .before .before .before .before .before .before .before .before .before .before .before .before .before .before .before .before) in omega (arith, t .row-inside, t .output-side)
+add-j c = let t = turn (c .before .before .before .before .before .before .before .before .before .before .before .before .before .before .before .before .before .before .before .before) in omega (arith, t .row-inside, t .so-far .fits)
 
 loop-less : tie.Need-loop-less Inv-loop μ-loop
 loop-less c = let t = turn (c .before .before .before .before .before .before .before .before .before .before .before .before .before .before .before .before .before .before .before .before) in omega (arith, t .row-inside)
 
 loop-again : tie.Need-loop-again Inv-loop μ-loop
 loop-again c =
-    let g = c .before .before .before .before .before .before .before .before .before .before .before .before .before .before .before .before .zero-gap .ensures in
-    let e = c .before .before .before .before .before .before .paint-row .ensures in
-    painting-more (turn (c .before .before .before .before .before .before .before .before .before .before .before .before .before .before .before .before .before .before .before .before)) (g .0) (g .1 .0) (g .1 .1) (e .0) (e .1 .0) (e .1 .1)
+    painting-more (turn (c .before .before .before .before .before .before .before .before .before .before .before .before .before .before .before .before .before .before .before .before))
+    (c .before .before .before .before .before .before .before .before .before .before .before .before .before .before .before .before .zero-gap .ensures)
+    (c .before .before .before .before .before .before .paint-row .ensures)
 
 zero-rest-requires : tie.Need-zero-rest-requires Inv-loop μ-loop
-zero-rest-requires c κs = let k = rest-long (c .before .before .before .before .before .before .before .before .before .before .before .before .pre .1 .1 .0) (c .before .before .before .before .loop .inv) in omega arith
+zero-rest-requires c κs = let k = rest-long (c .before .before .before .before .loop .inv) in omega arith
 
 returns : tie.Need-returns Inv-loop μ-loop
 returns c =
-    let e = c .before .before .before .before .before .before .zero-rest .ensures in
-    painting-end (c .before .before .before .before .before .before .before .before .before .before .before .before .before .before .before .before .before .before .before .pre .1 .1 .0) (c .before .before .before .before .before .before .before .before .before .before .before .loop .inv) (c .before .before .before .before .before .before .before .before .before .before .loop-test .left) (e .0) (e .1 .0) (e .1 .1)
+    painting-end (c .before .before .before .before .before .before .before .before .before .before .before .loop .inv)
+    (c .before .before .before .before .before .before .before .before .before .before .loop-test .left)
+    (c .before .before .before .before .before .before .zero-rest .ensures)
 
 pub paint-spec : {M : Type 1} → statement M
 paint-spec =
     tie.close
-    (tie.spec
-    Inv-loop
-    μ-loop
-    (λ c κs. search needs)
-    loop-holds
-    (λ c κs. search needs)
-    (λ c κs. search needs)
-    zero-gap-requires
-    paint-row-requires
-    add-done
-    add-j
-    loop-less
-    loop-again
-    zero-rest-requires
-    (λ c. search needs)
-    (λ c. search needs)
-    (λ c. search needs)
-    returns)
+    (tie.spec Inv-loop μ-loop loop-holds (λ c κs. search needs) (λ c κs. search needs) zero-gap-requires paint-row-requires
+    add-done add-j loop-less loop-again zero-rest-requires (λ c. search needs) (λ c. search needs) (λ c. search needs) returns)

@@ -2,26 +2,16 @@
 -- the converted row.
 use mathlib.Core.Path.{ap}
 use Prim.Native.Nat.{_+_}
-use Rattle.planes.specs.Plane.{patched}
-use Rattle.frame.proofs.PaintLaws.{parts-abreast}
 use borrow.Author.Needs.{needs}
+use Rattle.planes.specs.Plane.{patched}
+use Rattle.frame.proofs.PaintLaws.{parts-one-width}
 use Rattle.frame.proofs.paint.paint_row.Statement.{statement}
 use Rattle.frame.proofs.paint.paint_row.Tie as tie
 
 convert-row-requires : tie.Need-convert-row-requires
 convert-row-requires c κs =
-    let s = c .before .before .before .before .before .before .before .before .before .before .before .before in
-    let x = s .args in
-    let p = s .pre .1 .1 in (
-      s .pre .0,
-      (
-        s .pre .1 .0,
-        (
-          parts-abreast (x .a0 .now) (x .a1 .now) (x .a2 .now) (x .b0 .now) (x .b1 .now) (x .b2 .now) (x .from) (x .to) (x .width) (p .0) (p .1 .0),
-          p .1 .1,
-        ),
-      ),
-    )
+    let p = c .before .before .before .before .before .before .before .before .before .before .before .before .pre in
+    (p .0, (parts-one-width _ _ _ _ _ _ _ _ _ (p .1 .0) (p .1 .1 .0), p .1 .1 .1))
 
 returns : tie.Need-returns
 returns c =
@@ -35,34 +25,9 @@ pub paint-row-spec : {M : Type 1} → statement M
 paint-row-spec =
     tie.close
     (tie.spec
-    (λ c. search needs)
-    (λ c. search needs)
-    (λ c. search needs)
-    (λ c. search needs)
-    (λ c. search needs)
-    (λ c. search needs)
-    (λ c. search needs)
-    (λ c. search needs)
-    (λ c. search needs)
-    (λ c. search needs)
-    (λ c. search needs)
-    (λ c. search needs)
-    (λ c. search needs)
-    (λ c. search needs)
-    (λ c. search needs)
-    (λ c. search needs)
-    (λ c. search needs)
-    (λ c. search needs)
-    (λ c. search needs)
-    (λ c. search needs)
-    (λ c. search needs)
-    (λ c. search needs)
-    (λ c. search needs)
-    (λ c. search needs)
-    (λ c. search needs)
-    (λ c. search needs)
-    convert-row-requires
-    (λ c. search needs)
-    (λ c. search needs)
-    (λ c. search needs)
+    (λ c. search needs) (λ c. search needs) (λ c. search needs) (λ c. search needs) (λ c. search needs) (λ c. search needs)
+    (λ c. search needs) (λ c. search needs) (λ c. search needs) (λ c. search needs) (λ c. search needs) (λ c. search needs)
+    (λ c. search needs) (λ c. search needs) (λ c. search needs) (λ c. search needs) (λ c. search needs) (λ c. search needs)
+    (λ c. search needs) (λ c. search needs) (λ c. search needs) (λ c. search needs) (λ c. search needs) (λ c. search needs)
+    (λ c. search needs) (λ c. search needs) convert-row-requires (λ c. search needs) (λ c. search needs) (λ c. search needs)
     returns)
