@@ -24,6 +24,6 @@ LevelsAfter s p x y cb cr =
 -- a frame's call, which reads the planes a and is lent the planes b: of what those held, only their lengths count
 abbrev pub FrameExportAfter : Way → Setting → Size → List ℕ → List ℕ → List ℕ → List ℕ → List ℕ → List ℕ → ℕ → List ℕ → List ℕ → List ℕ → Type 0
 FrameExportAfter way s size a0 a1 a2 b0 b1 b2 x p0 p1 p2 =
-    let source = inputPicture size a0 a1 a2 in
+    let input = inputPicture size a0 a1 a2 in
     let output = outputLayout size (length b0) (length b1) (length b2) in
-    (x ≡ packedFrame (frameAnswer way s source output)) × PlanesAfter way s source output p0 p1 p2
+    (x ≡ packedFrame (frameAnswer way s input output)) × PlanesAfter way s input output p0 p1 p2
