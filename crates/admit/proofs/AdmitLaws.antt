@@ -1,10 +1,11 @@
 -- A call's rules, by what has been found out so far: those on the setting, then those on sizes, then the one on samples.
-use mathlib.Core.Path.{_≡_, refl, sym, ap, _∙_}
+use mathlib.Core.Path.{_≡_, refl, sym, ap, _∙_, subst}
 use mathlib.Core.Bool.{true≢false}
 use mathlib.Core.List.{List, [], _∷_, _++_}
-use Rattle.refusal.specs.Rules.{Rule, first, orElse}
+use Rattle.refusal.specs.Rules.{Rule, first, orElse, badAt}
 use Rattle.refusal.specs.declared.Check.{Check}
 use Rattle.refusal.specs.declared.Check.the-variants as check
+use Rattle.refusal.specs.declared.Place.{Place}
 use Rattle.refusal.specs.declared.Refusal.{Refusal}
 use Rattle.refusal.proofs.RuleLaws.{first-append}
 use Rattle.setting.specs.Ready.{Ready}
@@ -18,7 +19,7 @@ use Rattle.setting.proofs.ReadyLaws.{ready}
 use Rattle.planes.specs.First.{badRule}
 use Rattle.planes.specs.Picture.{Picture, layoutOf}
 use Rattle.planes.specs.declared.search.Found.{Found}
-use Rattle.planes.specs.declared.search.Found.the-variants.{Nothing}
+use Rattle.planes.specs.declared.search.Found.the-variants.{At, Nothing}
 use Rattle.planes.proofs.SizeTheorems.{twice}
 use Rattle.admit.specs.Rules.{callRules, callAdmission, pictureAdmission}
 
@@ -88,3 +89,26 @@ module _ (call : Call) (s : Setting) where
 -- a call that names its own layout again
 pub own-again : (call : Call) (s : Setting) (a : Picture) → pictureAdmission call s a (layoutOf a ∷ []) ≡ pictureAdmission call s a []
 own-again call s a = same-sizes call s _ _ _ (twice (a .width) (a .height) (layoutOf a))
+
+-- what holds of every answer of a call: of each refusal by its setting, by its sizes and by a bad sample, and of what is served
+module _ (Q : Admission → Type 0) (call : Call) (s : Setting) (sizes : List Rule) (bad : Found)
+    (of-setting : (r : Refusal) → first (settingRules call s) ≡ check.Refused r → Q (admission.Refused r))
+    (of-sizes : (r : Refusal) → first sizes ≡ check.Refused r → Q (admission.Refused r))
+    (of-sample : first sizes ≡ check.Passed → (place : Place) → bad ≡ At place → Q (admission.Refused (badAt place)))
+    (of-served : Q (admission.Served (served s)))
+  where
+    by-found : first sizes ≡ check.Passed → (f : Found) → bad ≡ f → Q (admitted (first (badRule f ∷ [])) (served s))
+    unfolding first
+    by-found h (At place) e = of-sample h place e
+    by-found h Nothing e = of-served
+
+    past-sizes : first (settingRules call s) ≡ check.Passed → (k : Check) → first sizes ≡ k → Q (callAdmission call s sizes bad)
+    past-sizes e check.Passed f = subst Q (by-sample call s sizes bad e f) (by-found f bad refl)
+    past-sizes e (check.Refused r) f = subst Q (by-size call s sizes bad r e f) (of-sizes r f)
+
+    by-check : (k : Check) → first (settingRules call s) ≡ k → Q (callAdmission call s sizes bad)
+    by-check check.Passed e = past-sizes e (first sizes) refl
+    by-check (check.Refused r) e = subst Q (by-setting call s sizes bad r e) (of-setting r e)
+
+    pub each-answer : Q (callAdmission call s sizes bad)
+    each-answer = by-check (first (settingRules call s)) refl

@@ -1,49 +1,60 @@
--- Demand 2 on a pixel or a sample: a call that no row refuses answers the samples that the formulas give, or the float nearest to the
+-- Demand 2 on a pixel or a sample: a call that no rule refuses answers the samples that the formulas give, or the float nearest to the
 -- level's fraction.
-use mathlib.Core.Path.{_≡_, ap}
+use mathlib.Core.Path.{_≡_, refl, ap}
 use mathlib.Core.List.{[], _∷_}
 use Prim.Native.Nat.{ℕ, _-_, _≤_}
 use native.Mathlib.Omega.{arith}
 use lib.IntN.{pos, _-ℤ_}
 use lib.Ieee.{Float}
-use Rattle.sample.specs.Depth.{M, Depth, mostDepth, InsideYCC}
+use Rattle.sample.specs.Depth.{M, Depth, mostDepth, InsideYCC, InsideOf}
 use Rattle.sample.specs.declared.Depths.{Depths}
 use Rattle.sample.specs.declared.Pixel.{Pixel}
+use Rattle.sample.specs.declared.Side.{Side}
 use Rattle.sample.proofs.DepthLaws.{powers}
 use Rattle.planes.specs.declared.search.Found.the-variants as found
 use Rattle.planes.proofs.SearchTheorems.{nothing-means}
-use Rattle.setting.specs.Rules.{depths, served, judged, refusalOf}
+use Rattle.refusal.specs.Rules.{first}
+use Rattle.refusal.specs.declared.Check.the-variants.{Passed}
+use Rattle.setting.specs.Call.{reads}
+use Rattle.setting.specs.Rules.{depths, served, settingRules}
+use Rattle.setting.specs.declared.Call.{Call}
 use Rattle.setting.specs.declared.Call.the-variants as call
 use Rattle.setting.specs.declared.Setting.{Setting}
+use Rattle.setting.specs.declared.admission.Admission.the-variants as admission
 use Rattle.setting.specs.declared.admission.Served.{Served}
 use Rattle.meter.specs.Level.{planeNumber, scaleOf, levelOf, levelsOf, nearestTo}
 use Rattle.meter.specs.declared.SampleKind.{SampleKind}
 use Rattle.meter.specs.declared.SampleKind.the-variants as kind
 use Rattle.meter.proofs.Scales.{level-rounded-once}
-use Rattle.plan.specs.Conversion.{convert, callOf, InsideSource}
+use Rattle.plan.specs.Conversion.{convert}
 use Rattle.setting.specs.declared.Way.{Way}
-use Rattle.setting.specs.declared.Way.the-variants.{Reverse}
 use Rattle.setting.proofs.ReadyLaws.{ready}
-use Rattle.admit.proofs.Accepted.{inside-exactly}
-use Rattle.admit.specs.Rules.{pixelPicture, topOf, badPixel, badOne, admitted, admittedOne}
+use Rattle.admit.proofs.Accepted.{of-accepted, inside-exactly}
+use Rattle.admit.specs.Rules.{beyondDepth, pixelPicture, topOf, badOne, pixelAdmission, sampleAdmission}
 use Rattle.corkplover.specs.Answers.{pixelAnswer, reading, levelsAnswer}
 use Rattle.corkplover.specs.declared.meters.Reading.the-variants as meter
 use Rattle.corkplover.specs.declared.meters.LevelsAnswer.the-variants as levels
 use Rattle.corkplover.specs.declared.pixels.PixelAnswer.the-variants.{Converted}
 
 -- samples within depth are not bad
-pub no-bad : (w : Way) (d : Depths) (p : Pixel) → InsideSource w d p → badPixel w d p ≡ found.Nothing
-no-bad w d p h =
-    inside-exactly w d (pixelPicture p) .1
+pub no-bad : (side : Side) (d : Depths) (p : Pixel) → InsideOf side d p → beyondDepth side d (pixelPicture p) ≡ found.Nothing
+no-bad side d p h =
+    inside-exactly side d (pixelPicture p) .1
     (λ j i a b.
     let ej : j ≡ 0 = omega arith in
     let ei : i ≡ 0 = omega arith in
     rw (ej, ei) h)
 
-pub accepted : (w : Way) (s : Setting) (p : Pixel) → refusalOf (callOf w) s ≡ 0 → InsideSource w (depths s) p
+-- a call on such a pixel is let in where no rule refuses its setting
+pub pixel-served : (c : Call) (s : Setting) (p : Pixel) → first (settingRules c s) ≡ Passed → InsideOf (reads c) (depths s) p
+    → pixelAdmission c s p ≡ admission.Served (served s)
+unfolding first
+pixel-served c s p e h = of-accepted c s [] _ (record { setting = e; sizes-pass = refl; samples = no-bad (reads c) (depths s) p h })
+
+pub accepted : (w : Way) (s : Setting) (p : Pixel) → first (settingRules (call.Convert w) s) ≡ Passed → InsideOf (reads (call.Convert w)) (depths s) p
     → pixelAnswer w s p ≡ Converted (convert w (served s) p)
-unfolding pixelAnswer admitted judged
-accepted w s p e h = rw (e, no-bad w (depths s) p h)
+unfolding pixelAnswer
+accepted w s p e h = rw (pixel-served (call.Convert w) s p e h)
 
 -- the float nearest to the fraction that a sample stands for
 abbrev pub nearestLevel : SampleKind → Served → ℕ → Float
@@ -68,7 +79,7 @@ top-small kind.Y d h g = largest-small (d .luma .0) h
 top-small kind.Cb d h g = largest-small (d .chroma .0) g
 top-small kind.Cr d h g = largest-small (d .chroma .0) g
 
-module _ (s : Setting) (e : refusalOf call.Meter s ≡ 0) where
+module _ (s : Setting) (e : first (settingRules call.Meter s) ≡ Passed) where
   level-is : (k : SampleKind) (v : ℕ) → v ≤ topOf k (depths s)
       → levelOf k (s .«ycc_full») (depths s .luma) (depths s .chroma) v ≡ nearestLevel k (served s) v
   level-is k v h =
@@ -77,16 +88,18 @@ module _ (s : Setting) (e : refusalOf call.Meter s ≡ 0) where
       level-rounded-once k (s .«ycc_full») (depths s .luma) (depths s .chroma) (r .three .luma) (r .three .chroma) v (omega arith)
 
   pub reading-accepted : (k : SampleKind) (v : ℕ) → v ≤ topOf k (depths s) → reading k s v ≡ meter.Level (nearestLevel k (served s) v)
-  unfolding reading admittedOne judged
-  reading-accepted k v h = rw (e, no-bad-one k (depths s) v h) (ap meter.Level (level-is k v h))
+  unfolding reading first
+  reading-accepted k v h =
+      rw (of-accepted call.Meter s [] _ (record { setting = e; sizes-pass = refl; samples = no-bad-one k (depths s) v h }))
+      (ap meter.Level (level-is k v h))
 
   pub levels-accepted : (p : Pixel) → InsideYCC (depths s) p
       → levelsAnswer s p
       ≡ levels.Levels
       (record { y = nearestLevel kind.Y (served s) (p .p0); cb = nearestLevel kind.Cb (served s) (p .p1); cr = nearestLevel kind.Cr (served s) (p .p2) })
-  unfolding levelsAnswer admitted judged levelsOf
+  unfolding levelsAnswer levelsOf
   levels-accepted p h =
-      rw (e, no-bad Reverse (depths s) p h)
+      rw (pixel-served call.Meter s p e h)
       (λ i.
       levels.Levels
       (record {

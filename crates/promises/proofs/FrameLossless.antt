@@ -1,30 +1,31 @@
 -- Demand 3 on whole pictures, over settings that the image check does not refuse: frames are one-to-one, and a
 -- frame comes back. The pixels' own theorems, row by row.
 use mathlib.Core.Path.{_≡_, refl, sym, ap, _∙_, subst}
-use mathlib.Core.Bool.{Bool, true, false}
-use mathlib.Core.List.{[], _∷_}
+use mathlib.Core.Bool.{false}
+use mathlib.Core.List.{List, [], _∷_}
 use Prim.Native.Nat.{ℕ, _<_}
 use native.Mathlib.Omega.{arith}
 use Rattle.sample.specs.Depth.{InsideYCC}
 use Rattle.sample.specs.declared.Pixel.{Pixel}
-use Rattle.refusal.specs.Rules.{row, first}
+use Rattle.refusal.specs.Rules.{Rule, rule, first}
+use Rattle.refusal.specs.declared.Check.the-variants.{Passed}
+use Rattle.refusal.proofs.RuleLaws.{passed-over}
 use Rattle.planes.specs.Plane.{planeOf, sampleAt}
-use Rattle.planes.specs.Sizes.{sizeRefusal, Fits}
+use Rattle.planes.specs.Sizes.{sizeRules, Fits}
 use Rattle.planes.specs.declared.size.Layout.{Layout}
 use Rattle.planes.proofs.PlaneTheorems.{plane-same}
-use Rattle.planes.proofs.SizeTheorems.{refused-0}
-use Rattle.setting.specs.Rules.{depths, served, refusalOf}
+use Rattle.planes.proofs.SizeTheorems.{sizes-pass}
+use Rattle.setting.specs.Rules.{depths, served, settingRules}
 use Rattle.setting.specs.declared.Call.the-variants as call
 use Rattle.setting.specs.declared.Setting.{Setting}
-use Rattle.setting.proofs.RefusalLaws.{in-turn, groups}
-use Rattle.plan.specs.Conversion.{callOf, convert}
+use Rattle.plan.specs.Conversion.{convert}
 use Rattle.setting.specs.declared.Way.{Way}
 use Rattle.setting.specs.declared.Way.the-variants.{Forward, Reverse}
 use Rattle.setting.proofs.ReadyLaws.{ready}
 use Rattle.plan.proofs.ConversionTheorems.{forward-inside}
-use Rattle.planes.specs.Picture.{Picture, picture, layoutOf, pixelOf, EveryPixel}
-use Rattle.admit.proofs.Accepted.{Accepted, sides-served, pixels-inside, inside-exactly}
-use Rattle.planes.specs.Picture.{sampleOf}
+use Rattle.planes.specs.Picture.{Picture, picture, layoutOf, pixelOf, sampleOf, EveryPixel}
+use Rattle.sample.specs.declared.Side.the-variants.{Ycc}
+use Rattle.admit.proofs.Accepted.{PictureAccepted, all-fit, pixels-inside, inside-exactly}
 use Rattle.frame.specs.Frame.{frameAnswer, lengthOf, outPlane}
 use Rattle.frame.specs.declared.FrameAnswer.the-variants.{Done}
 use Rattle.promises.proofs.Lossless.{pixel-trip, pixel-one-to-one}
@@ -34,18 +35,20 @@ use Rattle.promises.proofs.Frames.{frame-done, frame-length, done-plane
 pixel-is : (p q : Pixel) → ((k : ℕ) → k < 3 → sampleOf k p ≡ sampleOf k q) → p ≡ q
 pixel-is p q h = λ i. record { p0 = h 0 (omega arith) i; p1 = h 1 (omega arith) i; p2 = h 2 (omega arith) i }
 
--- row 11 asks nothing of a conversion, so what the image check takes is converted too
-without-11 : (x y z : Bool) → first (row 6 x ∷ row 7 y ∷ row 11 z ∷ []) ≡ 0 → first (row 6 x ∷ row 7 y ∷ row 11 false ∷ []) ≡ 0
+-- rule 11 asks nothing of a conversion, so what the image check takes is converted too
+pass : (r : Rule) (a b : List Rule) → first (r ∷ a) ≡ Passed → (first a ≡ Passed → first b ≡ Passed) → first (r ∷ b) ≡ Passed
 unfolding first
-without-11 true y z e = absurd (omega arith)
-without-11 false true z e = absurd (omega arith)
-without-11 false false z e = refl
+pass r a b e f = let t = passed-over r a e in rw (t .0) (f (t .1))
 
-pub converts-too : (w : Way) (s : Setting) → refusalOf call.ImageCheck s ≡ 0 → refusalOf (callOf w) s ≡ 0
-converts-too Forward s e = in-turn call.Forward s ∙ rw (groups call.ImageCheck s e .0, without-11 _ _ _ (groups call.ImageCheck s e .1))
-converts-too Reverse s e = in-turn call.Reverse s ∙ rw (groups call.ImageCheck s e .0, without-11 _ _ _ (groups call.ImageCheck s e .1))
+none-left : first (rule 11 false ∷ []) ≡ Passed
+unfolding first
+none-left = refl
 
-module _ (s : Setting) (e : refusalOf call.ImageCheck s ≡ 0) where
+pub converts-too : (w : Way) (s : Setting) → first (settingRules call.ImageCheck s) ≡ Passed → first (settingRules (call.Convert w) s) ≡ Passed
+converts-too w s e =
+    pass _ _ _ e (λ e. pass _ _ _ e (λ e. pass _ _ _ e (λ e. pass _ _ _ e (λ e. pass _ _ _ e (λ e. pass _ _ _ e (λ e. pass _ _ _ e (λ e. none-left)))))))
+
+module _ (s : Setting) (e : first (settingRules call.ImageCheck s) ≡ Passed) where
   -- ---- frames are one-to-one: pictures with equal conversions are equal
 
   pub frames-one-to-one : (a c : Picture) (b d : Layout) → frameAnswer Forward s a b ≡ Done → frameAnswer Forward s c d ≡ Done
@@ -56,8 +59,8 @@ module _ (s : Setting) (e : refusalOf call.ImageCheck s ≡ 0) where
       let x' : j < c .height = omega (arith, x, high) in
       let y' : i < c .width = omega (arith, y, wide) in
       pixel-one-to-one s e (pixelOf a j i) (pixelOf c j i)
-      (pixels-inside _ _ _ _ _ (frame-done Forward s a b .0 f) j i x y)
-      (pixels-inside _ _ _ _ _ (frame-done Forward s c d .0 g) j i x' y')
+      (pixels-inside _ _ _ _ (frame-done Forward s a b .0 f) j i x y)
+      (pixels-inside _ _ _ _ (frame-done Forward s c d .0 g) j i x' y')
       (pixel-is _ _ (λ k h. sym (done-inside Forward s a b f k j i h x y) ∙ same k j i h x y ∙ done-inside Forward s c d g k j i h x' y'))
 
   -- ---- a frame comes back: the planes that a forward call left are handed to the reverse call
@@ -67,7 +70,7 @@ module _ (s : Setting) (e : refusalOf call.ImageCheck s ≡ 0) where
     abbrev pub sent : Picture
     sent = picture (a .width) (a .height) (b .stride) (outPlane 0 Forward s a b) (outPlane 1 Forward s a b) (outPlane 2 Forward s a b)
 
-    taken : Accepted call.Forward Forward s a (b ∷ [])
+    taken : PictureAccepted (call.Convert Forward) s a (b ∷ [])
     taken = frame-done Forward s a b .0 f
 
     sent-pixel : (j i : ℕ) → j < a .height → i < a .width → pixelOf sent j i ≡ convert Forward (served s) (pixelOf a j i)
@@ -81,15 +84,15 @@ module _ (s : Setting) (e : refusalOf call.ImageCheck s ≡ 0) where
     sent-inside : EveryPixel (InsideYCC (depths s)) sent
     sent-inside j i x y =
         subst (InsideYCC (depths s)) (sym (sent-pixel j i x y))
-        (forward-inside (served s) (pixelOf a j i) (ready call.ImageCheck s e) (pixels-inside _ _ _ _ _ taken j i x y))
+        (forward-inside (served s) (pixelOf a j i) (ready call.ImageCheck s e) (pixels-inside _ _ _ _ taken j i x y))
 
-    sent-sizes : sizeRefusal (a .width) (a .height) (layoutOf sent ∷ d ∷ []) ≡ 0
+    sent-sizes : first (sizeRules (a .width) (a .height) (layoutOf sent ∷ d ∷ [])) ≡ Passed
     sent-sizes =
-        let own = sides-served call.Forward Forward s a (b ∷ []) taken .1 .0 in
+        let own = all-fit (call.Convert Forward) s a (b ∷ []) taken .1 .0 in
         let l0 = frame-length Forward s a b 0 in
         let l1 = frame-length Forward s a b 1 in
         let l2 = frame-length Forward s a b 2 in
-        refused-0 (a .width) (a .height) (layoutOf sent ∷ d ∷ []) .1 (
+        sizes-pass (a .width) (a .height) (layoutOf sent ∷ d ∷ []) .1 (
           record {
             width-within = h .sized .width-within;
             height-within = h .sized .height-within;
@@ -109,17 +112,17 @@ module _ (s : Setting) (e : refusalOf call.ImageCheck s ≡ 0) where
     pub trip-done : frameAnswer Reverse s sent d ≡ Done
     trip-done =
         frame-done Reverse s sent d .1
-        (record { setting = converts-too Reverse s e; sizes = sent-sizes; samples = inside-exactly Reverse (depths s) sent .1 sent-inside })
+        (record { setting = converts-too Reverse s e; sizes-pass = sent-sizes; samples = inside-exactly Ycc (depths s) sent .1 sent-inside })
 
     back : (j i : ℕ) → j < a .height → i < a .width → convert Reverse (served s) (pixelOf sent j i) ≡ pixelOf a j i
-    back j i x y = ap (convert Reverse (served s)) (sent-pixel j i x y) ∙ pixel-trip s e (pixelOf a j i) (pixels-inside _ _ _ _ _ taken j i x y)
+    back j i x y = ap (convert Reverse (served s)) (sent-pixel j i x y) ∙ pixel-trip s e (pixelOf a j i) (pixels-inside _ _ _ _ taken j i x y)
 
     -- and gives the picture again, sample for sample
     pub frame-trip : (k j i : ℕ) → k < 3 → j < a .height → i < a .width → sampleAt (outPlane k Reverse s sent d) (d .stride) j i ≡ sampleOf k (pixelOf a j i)
     frame-trip k j i l x y = done-inside Reverse s sent d trip-done k j i l x y ∙ ap (sampleOf k) (back j i x y)
 
     -- with zeros everywhere else
-    pub frame-trip-plane : (k : ℕ) → outPlane k Reverse s sent d ≡ planeOf (lengthOf k d) (d .stride) (a .width) (a .height) (λ j i. sampleOf k (pixelOf a j i))
+    pub frame-trip-plane : (k : ℕ) → outPlane k Reverse s sent d ≡ planeOf (lengthOf k d) (a .width) (a .height) (d .stride) (λ j i. sampleOf k (pixelOf a j i))
     frame-trip-plane k =
         done-plane Reverse s sent d trip-done k
-        ∙ plane-same (lengthOf k d) (d .stride) (a .width) (a .height) _ _ (λ j i x y. ap (sampleOf k) (back j i x y))
+        ∙ plane-same (lengthOf k d) (a .width) (a .height) (d .stride) _ _ (λ j i x y. ap (sampleOf k) (back j i x y))

@@ -14,7 +14,8 @@ use Rattle.planes.specs.Sizes.{needed, Fits}
 use Rattle.planes.specs.declared.size.Layout.{Layout}
 use Rattle.planes.proofs.Tables.{length-tab, tab-at}
 use Rattle.planes.proofs.PlaneTheorems.{plane-length, plane-inside, plane-outside, plane-same, pixel-same}
-use Rattle.planes.proofs.SearchTheorems.{bad-sample-same, first-place-same}
+use Rattle.planes.proofs.Searches.{first-place-same}
+use Rattle.planes.proofs.SearchTheorems.{bad-sample-same}
 use Rattle.setting.specs.Rules.{served}
 use Rattle.setting.specs.declared.Call.{Call}
 use Rattle.setting.specs.declared.Call.the-variants as call
@@ -22,17 +23,16 @@ use Rattle.setting.specs.declared.Setting.{Setting}
 use Rattle.setting.specs.declared.admission.Served.{Served}
 use Rattle.setting.specs.declared.admission.Admission.{Admission}
 use Rattle.setting.specs.declared.admission.Admission.the-variants as admission
-use Rattle.plan.specs.Conversion.{callOf, convert}
+use Rattle.plan.specs.Conversion.{convert}
+use Rattle.plan.specs.Source.{hasSource}
 use Rattle.setting.specs.declared.Way.{Way}
-use Rattle.setting.specs.declared.Way.the-variants.{Reverse}
-use Rattle.planes.specs.Picture.{Picture, picture, pixelOf}
-use Rattle.admit.specs.Rules.{pictureVerdict}
-use Rattle.admit.proofs.Accepted.{Accepted, accepted-of, of-accepted, sides-served}
-use Rattle.planes.specs.Picture.{sampleOf}
-use Rattle.frame.specs.Frame.{frameVerdict, frameBy, frameAnswer, convertedPlane, planeBy, lengthOf, outPlane}
+use Rattle.planes.specs.Picture.{Picture, picture, pixelOf, sampleOf}
+use Rattle.admit.specs.Rules.{pictureAdmission}
+use Rattle.admit.proofs.Accepted.{PictureAccepted, accepted-of, of-accepted, all-fit}
+use Rattle.frame.specs.Frame.{frameAdmission, frameBy, frameAnswer, convertedPlane, planeBy, lengthOf, outPlane}
 use Rattle.frame.specs.declared.FrameAnswer.the-variants.{Done, Refused}
 use Rattle.frame.proofs.FrameLaws.{plane-done, plane-refused}
-use Rattle.image_check.specs.Image.{sourceless, firstSourceless, answerFound, imageAnswer}
+use Rattle.image_check.specs.Image.{fails, firstFailing, answerFound, imageAnswer}
 use Rattle.image_check.specs.Image as image
 
 -- ---- every element
@@ -56,38 +56,38 @@ index-inside width height stride j i a b = omega (arith, mul-le-mul-right {m = j
 
 module _ (w : Way) (s : Setting) (a : Picture) (b : Layout) where
   -- Done exactly if no row applies
-  pub frame-done : (frameAnswer w s a b ≡ Done) ↔ Accepted (callOf w) w s a (b ∷ [])
+  pub frame-done : (frameAnswer w s a b ≡ Done) ↔ PictureAccepted (call.Convert w) s a (b ∷ [])
   unfolding frameAnswer
   frame-done = (
-    λ e. let x = done-served (frameVerdict w s a b) e in accepted-of (callOf w) w s a (b ∷ []) (x .by) (x .is) .0,
-    λ k. ap frameBy (of-accepted (callOf w) w s a (b ∷ []) k),
+    λ e. let x = done-served (frameAdmission w s a b) e in accepted-of (call.Convert w) s _ _ (x .by) (x .is) .0,
+    λ k. ap frameBy (of-accepted (call.Convert w) s _ _ k),
   )
 
   -- after any call the plane is as long as before
   by-length : (k : ℕ) (v : Admission) → length (planeBy v k w a (b .stride) (lengthOf k b)) ≡ lengthOf k b
-  by-length k (admission.Served x) = plane-length (lengthOf k b) (b .stride) (a .width) (a .height) _
+  by-length k (admission.Served x) = plane-length (lengthOf k b) (a .width) (a .height) (b .stride) _
   by-length k (admission.Refused r) = length-tab (lengthOf k b) _
 
   pub frame-length : (k : ℕ) → length (outPlane k w s a b) ≡ lengthOf k b
   unfolding outPlane
-  frame-length k = by-length k (frameVerdict w s a b)
+  frame-length k = by-length k (frameAdmission w s a b)
 
   -- a refused call zeroes every element
   pub refused-zero : (r : Refusal) → frameAnswer w s a b ≡ Refused r → (k n : ℕ) → n < lengthOf k b → getD (outPlane k w s a b) n 0 ≡ 0
   unfolding frameAnswer
   refused-zero r e k n h =
-      ap (λ p. getD p n 0) (plane-refused w s a b r (frame-refused (frameVerdict w s a b) r e) k) ∙ tab-at (lengthOf k b) _ n h
+      ap (λ p. getD p n 0) (plane-refused w s a b r (frame-refused (frameAdmission w s a b) r e) k) ∙ tab-at (lengthOf k b) _ n h
 
   -- an accepted one writes the converted picture
   module _ (e : frameAnswer w s a b ≡ Done) where
-    accepted : Accepted (callOf w) w s a (b ∷ [])
+    accepted : PictureAccepted (call.Convert w) s a (b ∷ [])
     accepted = frame-done .0 e
 
     pub done-plane : (k : ℕ) → outPlane k w s a b ≡ convertedPlane k w (served s) a (b .stride) (lengthOf k b)
-    done-plane k = plane-done w s a b (served s) (of-accepted (callOf w) w s a (b ∷ []) accepted) k
+    done-plane k = plane-done w s a b (served s) (of-accepted (call.Convert w) s _ _ accepted) k
 
     output-served : Fits (a .width) (a .height) b
-    output-served = sides-served (callOf w) w s a (b ∷ []) accepted .1 .0
+    output-served = all-fit (call.Convert w) s a (b ∷ []) accepted .1 .0
 
     long-enough : (k : ℕ) → k < 3 → needed (a .width) (a .height) (b .stride) ≤ lengthOf k b
     long-enough zero h = output-served .long .long0
@@ -100,14 +100,14 @@ module _ (w : Way) (s : Setting) (a : Picture) (b : Layout) where
         → sampleAt (outPlane k w s a b) (b .stride) j i ≡ sampleOf k (convert w (served s) (pixelOf a j i))
     done-inside k j i h x y =
         ap (λ p. sampleAt p (b .stride) j i) (done-plane k)
-        ∙ plane-inside (lengthOf k b) (b .stride) (a .width) (a .height) _ j i x y (output-served .sized .stride-within .from-least)
+        ∙ plane-inside (lengthOf k b) (a .width) (a .height) (b .stride) _ j i x y (output-served .sized .stride-within .from-least)
         (omega (arith, index-inside (a .width) (a .height) (b .stride) j i x y, long-enough k h))
 
     -- what lies outside the picture is 0, wherever in the plane it is
     pub done-outside : (k n : ℕ) → n < lengthOf k b → ((j i : ℕ) → j < a .height → i < a .width → n ≡ j * b .stride + i → ⊥)
         → getD (outPlane k w s a b) n 0 ≡ 0
     done-outside k n h o =
-        ap (λ p. getD p n 0) (done-plane k) ∙ plane-outside (lengthOf k b) (b .stride) (a .width) (a .height) _ n h o
+        ap (λ p. getD p n 0) (done-plane k) ∙ plane-outside (lengthOf k b) (a .width) (a .height) (b .stride) _ n h o
 
 -- ---- nothing else matters
 
@@ -120,41 +120,40 @@ pub record Alike (a : Picture) (q0 q1 q2 : List ℕ) : Type 0 where
   pub long0 : length (a .p0) ≡ length q0
   pub long1 : length (a .p1) ≡ length q1
   pub long2 : length (a .p2) ≡ length q2
-  pub same0 : SamePicture (a .stride) (a .width) (a .height) (a .p0) q0
-  pub same1 : SamePicture (a .stride) (a .width) (a .height) (a .p1) q1
-  pub same2 : SamePicture (a .stride) (a .width) (a .height) (a .p2) q2
+  pub same0 : SamePicture (a .width) (a .height) (a .stride) (a .p0) q0
+  pub same1 : SamePicture (a .width) (a .height) (a .stride) (a .p1) q1
+  pub same2 : SamePicture (a .width) (a .height) (a .stride) (a .p2) q2
 
 module _ (a : Picture) (q0 q1 q2 : List ℕ) (e : Alike a q0 q1 q2) where
   pixels : (j i : ℕ) → j < a .height → i < a .width → pixelOf a j i ≡ pixelOf (withPlanes a q0 q1 q2) j i
-  pixels = pixel-same (a .stride) (a .width) (a .height) (a .p0) (a .p1) (a .p2) q0 q1 q2 (e .same0) (e .same1) (e .same2)
+  pixels = pixel-same a q0 q1 q2 (e .same0) (e .same1) (e .same2)
 
-  same-verdict : (c : Call) (w : Way) (s : Setting) (others : List Layout) → pictureVerdict c w s a others ≡ pictureVerdict c w s (withPlanes a q0 q1 q2) others
-  unfolding pictureVerdict
-  same-verdict c w s others =
+  same-admission : (c : Call) (s : Setting) (others : List Layout) → pictureAdmission c s a others ≡ pictureAdmission c s (withPlanes a q0 q1 q2) others
+  same-admission c s others =
       rw (
         e .long0,
         e .long1,
         e .long2,
-        bad-sample-same (a .p0) (a .p1) (a .p2) q0 q1 q2 (a .stride) (a .width) (a .height) _ (e .same0) (e .same1) (e .same2),
+        bad-sample-same a q0 q1 q2 _ (e .same0) (e .same1) (e .same2),
       )
 
   pub same-answer : (w : Way) (s : Setting) (b : Layout) → frameAnswer w s a b ≡ frameAnswer w s (withPlanes a q0 q1 q2) b
   unfolding frameAnswer
-  same-answer w s b = ap frameBy (same-verdict (callOf w) w s (b ∷ []))
+  same-answer w s b = ap frameBy (same-admission (call.Convert w) s (b ∷ []))
 
   by-same : (k : ℕ) (w : Way) (stride n : ℕ) (v : Admission) → planeBy v k w a stride n ≡ planeBy v k w (withPlanes a q0 q1 q2) stride n
   by-same k w stride n (admission.Served x) =
-      plane-same n stride (a .width) (a .height) _ _ (λ j i h l. ap (λ p. sampleOf k (convert w x p)) (pixels j i h l))
+      plane-same n (a .width) (a .height) stride _ _ (λ j i h l. ap (λ p. sampleOf k (convert w x p)) (pixels j i h l))
   by-same k w stride n (admission.Refused r) = refl
 
   pub same-plane : (k : ℕ) (w : Way) (s : Setting) (b : Layout) → outPlane k w s a b ≡ outPlane k w s (withPlanes a q0 q1 q2) b
   unfolding outPlane
   same-plane k w s b =
-      by-same k w (b .stride) (lengthOf k b) (frameVerdict w s a b)
-      ∙ ap (λ v. planeBy v k w (withPlanes a q0 q1 q2) (b .stride) (lengthOf k b)) (same-verdict (callOf w) w s (b ∷ []))
+      by-same k w (b .stride) (lengthOf k b) (frameAdmission w s a b)
+      ∙ ap (λ v. planeBy v k w (withPlanes a q0 q1 q2) (b .stride) (lengthOf k b)) (same-admission (call.Convert w) s (b ∷ []))
 
-  found-same : (x : Served) → firstSourceless x a ≡ firstSourceless x (withPlanes a q0 q1 q2)
-  found-same x = first-place-same (sourceless x a) (sourceless x (withPlanes a q0 q1 q2)) 0 (a .width) (a .height) (λ j i h l. rw (pixels j i h l))
+  found-same : (x : Served) → firstFailing (hasSource x) a ≡ firstFailing (hasSource x) (withPlanes a q0 q1 q2)
+  found-same x = first-place-same (fails (hasSource x) a) (fails (hasSource x) (withPlanes a q0 q1 q2)) 0 (a .width) (a .height) (λ j i h l. rw (pixels j i h l))
 
   image-by-same : (v : Admission) → image.imageBy v a ≡ image.imageBy v (withPlanes a q0 q1 q2)
   image-by-same (admission.Served x) = ap answerFound (found-same x)
@@ -163,5 +162,5 @@ module _ (a : Picture) (q0 q1 q2 : List ℕ) (e : Alike a q0 q1 q2) where
   pub same-image : (s : Setting) → imageAnswer s a ≡ imageAnswer s (withPlanes a q0 q1 q2)
   unfolding imageAnswer
   same-image s =
-      image-by-same (pictureVerdict call.ImageCheck Reverse s a [])
-      ∙ ap (λ v. image.imageBy v (withPlanes a q0 q1 q2)) (same-verdict call.ImageCheck Reverse s [])
+      image-by-same (pictureAdmission call.ImageCheck s a [])
+      ∙ ap (λ v. image.imageBy v (withPlanes a q0 q1 q2)) (same-admission call.ImageCheck s [])

@@ -10,35 +10,35 @@ use borrow.Author.Tests.{not-true, not-false}
 use lib.ListN.{length}
 use Rattle.sample.specs.Depth.{InsideRGB, InsideYCC}
 use Rattle.sample.proofs.Choices.{must}
-use Rattle.refusal.specs.Rules.{row, first, orElse}
+use Rattle.refusal.specs.Rules.{first}
+use Rattle.refusal.specs.declared.Check.the-variants.{Passed}
 use Rattle.refusal.specs.declared.Place.{Place}
-use Rattle.refusal.proofs.RuleLaws.{neither}
+use Rattle.refusal.specs.declared.Refusal.{Refusal}
 use Rattle.planes.specs.First.{IsFirstPlace}
 use Rattle.planes.specs.Plane.{planeOf, sampleAt}
 use Rattle.planes.specs.Sizes.{needed, LongEnough}
 use Rattle.planes.specs.declared.search.Found.{Found}
 use Rattle.planes.specs.declared.search.Found.the-variants as found
 use Rattle.planes.proofs.PlaneTheorems.{plane-length, plane-inside}
-use Rattle.planes.proofs.SearchTheorems.{no-place-means, first-place-means}
-use Rattle.setting.specs.Rules.{depths, served, refusalOf}
-use Rattle.setting.specs.declared.Call.the-variants as call
+use Rattle.planes.proofs.Searches.{no-place-means, first-place-means}
+use Rattle.setting.specs.Rules.{depths, served, settingRules}
+use Rattle.setting.specs.declared.Call.the-variants.{ImageCheck}
 use Rattle.setting.specs.declared.Setting.{Setting}
+use Rattle.setting.specs.declared.admission.Admission.{Admission}
 use Rattle.setting.specs.declared.admission.Admission.the-variants as admission
+use Rattle.setting.specs.declared.admission.Served.{Served}
 use Rattle.plan.specs.Conversion.{convert}
 use Rattle.plan.specs.Source.{HasSource, hasSource}
 use Rattle.setting.specs.declared.Way.the-variants.{Forward, Reverse}
 use Rattle.setting.proofs.ReadyLaws.{ready}
 use Rattle.plan.proofs.ConversionTheorems.{reverse-inside, same-pixel}
-use Rattle.planes.specs.Picture.{Picture, picture, pixelOf, layoutOf, EveryPixel}
-use Rattle.admit.specs.Rules.{beyondDepth, numberBefore10, pictureVerdict}
-use Rattle.admit.proofs.Accepted.{Accepted, of-accepted, pixels-inside}
-use Rattle.planes.specs.Picture.{sampleOf}
-use Rattle.image_check.specs.Image.{sourceless, firstSourceless, answerFound, imageBy, imageAnswer}
+use Rattle.planes.specs.Picture.{Picture, picture, pixelOf, sampleOf, layoutOf, EveryPixel}
+use Rattle.admit.specs.Rules.{pictureAdmission}
+use Rattle.admit.proofs.Accepted.{PictureAccepted, accepted-of, of-accepted, pixels-inside}
+use Rattle.image_check.specs.Image.{fails, firstFailing, answerFound, imageBy, imageAnswer}
 use Rattle.image_check.specs.declared.ImageAnswer.the-variants.{Yes, NoSource}
 use Rattle.corkplover.specs.Meaning.{meaningOfImage}
-use Rattle.promises.specs.Tables.{isFound}
-use Rattle.promises.proofs.Refusals.{number, past-number}
-use Rattle.promises.proofs.FrameRefusals.{image-number}
+use Rattle.promises.proofs.Refusals.{found-number, not-refused}
 use Rattle.promises.proofs.Lossless.{source-exactly}
 use Rattle.promises.proofs.Frames.{index-inside}
 
@@ -61,30 +61,23 @@ none-found : (f : Found) (place : Place) → answerFound f ≡ NoSource place �
 none-found (found.At q) place e = let g : q ≡ place = cc in ap found.At g
 none-found found.Nothing place e = absurd (true≢false cc)
 
--- nothing was found, as row 10 says
-none-there : (f : Found) → first (row 10 (isFound f) ∷ []) ≡ 0 → f ≡ found.Nothing
-unfolding first
-none-there (found.At place) e = absurd (omega arith)
-none-there found.Nothing e = refl
+-- an answer that is no refusal was let in
+record LetIn (v : Admission) : Type 0 where
+  by : Served
+  is : v ≡ admission.Served by
 
-verdict-number : (s : Setting) (a : Picture)
-    → number (pictureVerdict call.ImageCheck Reverse s a [])
-    ≡ orElse (numberBefore10 call.ImageCheck s a []) (first (row 10 (isFound (beyondDepth Reverse (depths s) a)) ∷ []))
-unfolding pictureVerdict
-verdict-number s a = past-number (numberBefore10 call.ImageCheck s a []) (served s) (beyondDepth Reverse (depths s) a)
+let-in : (v : Admission) (a : Picture) → ((r : Refusal) → v ≡ admission.Refused r → r .number ≡ 0 → ⊥) → meaningOfImage (imageBy v a) .number ≡ 0 → LetIn v
+let-in (admission.Served x) a h e = record { by = x; is = refl }
+let-in (admission.Refused r) a h e = absurd (h r refl e)
 
--- the image check is not refused exactly if no row applies
-pub image-accepted : (s : Setting) (a : Picture) → (meaningOfImage (imageAnswer s a) .number ≡ 0) ↔ Accepted call.ImageCheck Reverse s a []
+-- the image check is not refused exactly if no rule applies
+pub image-accepted : (s : Setting) (a : Picture) → (meaningOfImage (imageAnswer s a) .number ≡ 0) ↔ PictureAccepted ImageCheck s a []
 unfolding imageAnswer
 image-accepted s a = (
   λ e.
-      let f = beyondDepth Reverse (depths s) a in
-      let n = neither (numberBefore10 call.ImageCheck s a []) _ (sym (verdict-number s a) ∙ sym (image-number (pictureVerdict call.ImageCheck Reverse s a []) a) ∙ e) in
-      let m = neither (refusalOf call.ImageCheck s) _ (n .0) in
-      record { setting = m .0; sizes = m .1; samples = none-there f (n .1) },
-  λ k.
-      ap (λ v. meaningOfImage (imageBy v a) .number) (of-accepted call.ImageCheck Reverse s a [] k)
-      ∙ image-number (admission.Served (served s)) a,
+      let x = let-in (pictureAdmission ImageCheck s a []) a (not-refused ImageCheck s _ _ (refl, (refl, tt))) e in
+      accepted-of ImageCheck s _ _ (x .by) (x .is) .0,
+  λ k. ap (λ v. meaningOfImage (imageBy v a) .number) (of-accepted ImageCheck s _ _ k) ∙ found-number (firstFailing (hasSource (served s)) a),
 )
 
 -- a pixel without a source was named
@@ -96,29 +89,29 @@ by-found : {s : Setting} {a : Picture} (f : Found) → imageAnswer s a ≡ answe
 by-found (found.At place) e = inr (record { place = place; is = e })
 by-found found.Nothing e = inl e
 
-module _ (s : Setting) (a : Picture) (k : Accepted call.ImageCheck Reverse s a []) where
-  e : refusalOf call.ImageCheck s ≡ 0
+module _ (s : Setting) (a : Picture) (k : PictureAccepted ImageCheck s a []) where
+  e : first (settingRules ImageCheck s) ≡ Passed
   e = k .setting
 
   -- a call that no row refuses is answered by the search
-  searched : imageAnswer s a ≡ answerFound (firstSourceless (served s) a)
+  searched : imageAnswer s a ≡ answerFound (firstFailing (hasSource (served s)) a)
   unfolding imageAnswer
-  searched = ap (λ v. imageBy v a) (of-accepted call.ImageCheck Reverse s a [] k)
+  searched = ap (λ v. imageBy v a) (of-accepted ImageCheck s _ _ k)
 
   within : (j i : ℕ) → j < a .height → i < a .width → InsideYCC (depths s) (pixelOf a j i)
-  within = pixels-inside call.ImageCheck Reverse s a [] k
+  within = pixels-inside ImageCheck s a [] k
 
   -- the test of a pixel, and the claim
-  passing : (j i : ℕ) → j < a .height → i < a .width → (sourceless (served s) a j i ≡ false) ↔ HasSource (served s) (pixelOf a j i)
+  passing : (j i : ℕ) → j < a .height → i < a .width → (fails (hasSource (served s)) a j i ≡ false) ↔ HasSource (served s) (pixelOf a j i)
   passing j i x y =
       let t = source-exactly s e (pixelOf a j i) (within j i x y) in
       (λ q. t .0 (not-false _ q), λ h. ap not (t .1 h))
 
-  failing : (j i : ℕ) → j < a .height → i < a .width → (sourceless (served s) a j i ≡ true) ↔ (HasSource (served s) (pixelOf a j i) → ⊥)
+  failing : (j i : ℕ) → j < a .height → i < a .width → (fails (hasSource (served s)) a j i ≡ true) ↔ (HasSource (served s) (pixelOf a j i) → ⊥)
   failing j i x y =
       let t = source-exactly s e (pixelOf a j i) (within j i x y) in (
         λ q h. true≢false (sym (t .1 h) ∙ not-true _ q),
-        λ f. must (sourceless (served s) a j i) (λ q. f (t .0 (not-false _ q))),
+        λ f. must (fails (hasSource (served s)) a j i) (λ q. f (t .0 (not-false _ q))),
       )
 
   -- converting back gives the source of every pixel that has one; here it is as a picture, in planes of its own width
@@ -126,7 +119,7 @@ module _ (s : Setting) (a : Picture) (k : Accepted call.ImageCheck Reverse s a [
   sample n j i = sampleOf n (convert Reverse (served s) (pixelOf a j i))
 
   abbrev plane : ℕ → List ℕ
-  plane n = planeOf (needed (a .width) (a .height) (a .width)) (a .width) (a .width) (a .height) (sample n)
+  plane n = planeOf (needed (a .width) (a .height) (a .width)) (a .width) (a .height) (a .width) (sample n)
 
   abbrev made : Picture
   made = picture (a .width) (a .height) (a .width) (plane 0) (plane 1) (plane 2)
@@ -134,12 +127,12 @@ module _ (s : Setting) (a : Picture) (k : Accepted call.ImageCheck Reverse s a [
   made-long : LongEnough (a .width) (a .height) (layoutOf made)
   made-long =
       let long : (n : ℕ) → needed (a .width) (a .height) (a .width) ≤ length (plane n) =
-      λ n. let e = plane-length (needed (a .width) (a .height) (a .width)) (a .width) (a .width) (a .height) (sample n) in omega arith in
+      λ n. let e = plane-length (needed (a .width) (a .height) (a .width)) (a .width) (a .height) (a .width) (sample n) in omega arith in
       record { long0 = long 0; long1 = long 1; long2 = long 2 }
 
   made-sample : (n j i : ℕ) → j < a .height → i < a .width → sampleAt (plane n) (a .width) j i ≡ sample n j i
   made-sample n j i x y =
-      plane-inside (needed (a .width) (a .height) (a .width)) (a .width) (a .width) (a .height) (sample n) j i x y (omega arith)
+      plane-inside (needed (a .width) (a .height) (a .width)) (a .width) (a .height) (a .width) (sample n) j i x y (omega arith)
       (index-inside (a .width) (a .height) (a .width) j i x y)
 
   made-pixel : (j i : ℕ) → j < a .height → i < a .width → pixelOf made j i ≡ convert Reverse (served s) (pixelOf a j i)
@@ -156,7 +149,7 @@ module _ (s : Setting) (a : Picture) (k : Accepted call.ImageCheck Reverse s a [
         long = made-long;
         inside = λ j i x y.
             subst (InsideRGB (depths s)) (sym (made-pixel j i x y))
-            (reverse-inside (served s) (pixelOf a j i) (ready call.ImageCheck s e) (within j i x y));
+            (reverse-inside (served s) (pixelOf a j i) (ready ImageCheck s e) (within j i x y));
         converts = λ j i x y. ap (convert Forward (served s)) (made-pixel j i x y) ∙ same-pixel _ _ (h j i x y);
       }
 
@@ -168,14 +161,14 @@ module _ (s : Setting) (a : Picture) (k : Accepted call.ImageCheck Reverse s a [
         converts = p .converts j i x y;
       }
 
-  every : (firstSourceless (served s) a ≡ found.Nothing) ↔ ((j i : ℕ) → j < a .height → i < a .width → HasSource (served s) (pixelOf a j i))
-  every = no-place-means (sourceless (served s) a) 0 (a .width) (a .height) _ _ failing passing
+  every : (firstFailing (hasSource (served s)) a ≡ found.Nothing) ↔ ((j i : ℕ) → j < a .height → i < a .width → HasSource (served s) (pixelOf a j i))
+  every = no-place-means (fails (hasSource (served s)) a) 0 (a .width) (a .height) _ _ failing passing
 
   -- Yes exactly if there is such a picture
   pub image-yes : (imageAnswer s a ≡ Yes) ↔ SourcePicture s a
   image-yes = (
     λ q.
-        let h = every .0 (yes-found (firstSourceless (served s) a) (sym searched ∙ q)) in
+        let h = every .0 (yes-found (firstFailing (hasSource (served s)) a) (sym searched ∙ q)) in
         made-source (λ j i x y. source-exactly s e (pixelOf a j i) (within j i x y) .1 (h j i x y)),
     λ p. searched ∙ ap answerFound (every .1 (source-has p)),
   )
@@ -185,9 +178,9 @@ module _ (s : Setting) (a : Picture) (k : Accepted call.ImageCheck Reverse s a [
       → (imageAnswer s a ≡ NoSource place)
       ↔ IsFirstPlace (λ j i. HasSource (served s) (pixelOf a j i) → ⊥) (λ j i. HasSource (served s) (pixelOf a j i)) 0 (a .width) (a .height) place
   image-none place =
-      let t = first-place-means (sourceless (served s) a) 0 (a .width) (a .height) _ _ failing passing place in
-      (λ q. t .0 (none-found (firstSourceless (served s) a) place (sym searched ∙ q)), λ p. searched ∙ ap answerFound (t .1 p))
+      let t = first-place-means (fails (hasSource (served s)) a) 0 (a .width) (a .height) _ _ failing passing place in
+      (λ q. t .0 (none-found (firstFailing (hasSource (served s)) a) place (sym searched ∙ q)), λ p. searched ∙ ap answerFound (t .1 p))
 
   -- There is no third answer.
   pub image-decides : (imageAnswer s a ≡ Yes) ⊎ Named s a
-  image-decides = by-found (firstSourceless (served s) a) searched
+  image-decides = by-found (firstFailing (hasSource (served s)) a) searched

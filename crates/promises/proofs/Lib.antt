@@ -8,10 +8,10 @@ pub mod Contracts
 pub mod ExportContracts
 pub mod Lossless
 pub mod Accepted
+pub mod Printed
 pub mod Fields
 pub mod Unpacked
 pub mod FrameUnpacked
-pub mod FrameRefusals
 pub mod Frames
 pub mod FrameLossless
 pub mod Images

@@ -7,17 +7,17 @@ use Rattle.rounding.specs.Rounding.{half, round, clip, sample}
 use Rattle.sample.specs.Depth.{isDepth, areDepths, atMost}
 use Rattle.sample.specs.declared.Pixel.{Pixel}
 use Rattle.refusal.specs.Rules.{first}
-use Rattle.planes.specs.First.{orFound, firstOf, placeIf, placeInRow, firstPlace, firstBad, badSample}
+use Rattle.planes.specs.First.{orFound, firstOf, placeIf, placeInRow, firstPlace, badSample}
 use Rattle.ycgco.specs.YCgCo.{lossyForward, lossyReverse, losslessForward, losslessReverse}
-use Rattle.levels.specs.Luma.{lumaForward, lumaReverse}
+use Rattle.levels.specs.Conversion.{levelsForward, levelsReverse}
+use Rattle.levels.specs.Equations.{lumaMatrix}
 use Rattle.setting.specs.Label.{among, labelled}
 use Rattle.setting.specs.Matrix.{matrixOf}
-use Rattle.setting.specs.Agreement.{depthsServed}
-use Rattle.setting.specs.Rules.{refusalOf, judged}
+use Rattle.setting.specs.Agreement.{depthsServed, agree}
 use Rattle.setting.specs.declared.Setting.{Setting}
 use Rattle.plan.specs.Conversion.{convert}
 use Rattle.setting.specs.declared.Way.the-variants.{Forward, Reverse}
-use Rattle.admit.specs.Rules.{admitted}
+use Rattle.admit.specs.Rules.{callAdmission}
 use Rattle.corkplover.specs.Answers.{pixelAnswer}
 use Rattle.corkplover.specs.declared.pixels.PixelAnswer.{PixelAnswer}
 use Rattle.corkplover.specs.declared.pixels.PixelAnswer.the-variants.{Converted}
@@ -67,5 +67,5 @@ table =
     ∷ []
 
 pub marked : answers ≡ table
-unfolding pixelAnswer admitted refusalOf judged first matrixOf labelled among depthsServed areDepths isDepth atMost badSample firstBad firstPlace placeInRow placeIf firstOf orFound convert lossyForward lossyReverse losslessForward losslessReverse lumaForward lumaReverse half round clip sample
+unfolding pixelAnswer callAdmission first matrixOf labelled among depthsServed agree areDepths isDepth atMost badSample firstPlace placeInRow placeIf firstOf orFound convert lossyForward lossyReverse losslessForward losslessReverse levelsForward levelsReverse lumaMatrix half round clip sample
 marked = refl

@@ -1,7 +1,7 @@
 -- A refusal of 10 names the first bad sample, any other refusal names no place, and no refusal gives anything else. It is shown once of any
 -- call's rules, and then read off each answer.
-use mathlib.Core.Path.{_≡_, refl, sym, ap, _∙_, subst}
-use mathlib.Core.Bool.{Bool, true, false, cond}
+use mathlib.Core.Path.{_≡_, refl, sym, subst}
+use mathlib.Core.Bool.{false}
 use mathlib.Core.List.{List, [], _∷_}
 use Prim.Native.Nat.{ℕ}
 use native.Mathlib.Omega.{arith}
@@ -11,14 +11,12 @@ use Rattle.sample.specs.Depth.{tops}
 use Rattle.sample.specs.declared.Pixel.{Pixel}
 use Rattle.sample.specs.declared.Side.{Side}
 use Rattle.sample.specs.declared.Side.the-variants.{Ycc}
-use Rattle.refusal.specs.Rules.{Rule, first, nowhere}
-use Rattle.refusal.specs.declared.Check.{Check}
-use Rattle.refusal.specs.declared.Check.the-variants as check
+use Rattle.refusal.specs.Rules.{Rule, nowhere, numbered}
 use Rattle.refusal.specs.declared.Place.{Place}
 use Rattle.refusal.specs.declared.Refusal.{Refusal}
-use Rattle.refusal.proofs.RuleLaws.{never-both, same-refusal}
+use Rattle.refusal.proofs.RuleLaws.{EveryRule, first-has}
 use Rattle.setting.specs.Call.{inputOf}
-use Rattle.setting.specs.Rules.{depths, served, settingRules, admitted}
+use Rattle.setting.specs.Rules.{depths, served, settingRules}
 use Rattle.setting.specs.declared.Call.{Call}
 use Rattle.setting.specs.declared.Call.the-variants as call
 use Rattle.setting.specs.declared.Setting.{Setting}
@@ -28,7 +26,7 @@ use Rattle.setting.specs.declared.admission.Admission.the-variants as admission
 use Rattle.setting.specs.declared.admission.Served.{Served}
 use Rattle.meter.specs.Level.{planeNumber}
 use Rattle.meter.specs.declared.SampleKind.{SampleKind}
-use Rattle.planes.specs.First.{badRule, IsBadSample, IsFirstBad}
+use Rattle.planes.specs.First.{IsBadSample, IsFirstBad}
 use Rattle.planes.specs.Picture.{Picture, layoutOf}
 use Rattle.planes.specs.Sizes.{sizeRules}
 use Rattle.planes.specs.declared.search.Found.{Found}
@@ -37,7 +35,7 @@ use Rattle.planes.specs.declared.size.Layout.{Layout}
 use Rattle.planes.proofs.SearchTheorems.{at-in-planes-means, at-means}
 use Rattle.plan.specs.Source.{hasSource}
 use Rattle.admit.specs.Rules.{callAdmission, pixelPicture, topOf}
-use Rattle.admit.proofs.AdmitLaws.{by-setting, by-size, by-sample}
+use Rattle.admit.proofs.AdmitLaws.{each-answer}
 use Rattle.frame.specs.Frame.{frameBy, frameAnswer}
 use Rattle.image_check.specs.Image.{firstFailing, imageBy, imageAnswer}
 use Rattle.corkplover.specs.Answers.{convertedBy, pixelAnswer, sourceBy, sourceAnswer, readBy, reading, levelsBy, levelsAnswer}
@@ -54,63 +52,40 @@ pub record NamesPlace (Bad : Place → Type 0) (m : Meaning) : Type 0 where
   pub other : (m .number ≡ 0 → ⊥) → (m .number ≡ 10 → ⊥) → m .place ≡ nowhere
   pub alone : (m .number ≡ 0 → ⊥) → GivesNothing m
 
--- rules that are not rule 10 and name no place
-abbrev Placeless : List Rule → Type 0
-Placeless [] = Unit
-Placeless (r ∷ rs) = ((eqb (r .refusal .number) 10 ≡ false) × (r .refusal .place ≡ nowhere)) × Placeless rs
+-- a refusal that is not 10 and names no place
+pub record Other (x : Refusal) : Type 0 where
+  pub not-10 : eqb (x .number) 10 ≡ false
+  pub no-place : x .place ≡ nowhere
 
-record Other (x : Refusal) : Type 0 where
-  not-10 : eqb (x .number) 10 ≡ false
-  no-place : x .place ≡ nowhere
-
-other-step : (r : Rule) (t : Bool) (c : Check) (x : Refusal) → Other (r .refusal) → (c ≡ check.Refused x → Other x)
-    → cond t (check.Refused (r .refusal)) c ≡ check.Refused x → Other x
-other-step r true c x h f e = subst Other (same-refusal e) h
-other-step r false c x h f e = f e
-
-others : (rs : List Rule) (x : Refusal) → Placeless rs → first rs ≡ check.Refused x → Other x
-unfolding first
-others [] x h e = absurd (never-both x e)
-others (r ∷ rs) x h e = other-step r (r .applies) (first rs) x (record { not-10 = h .0 .0; no-place = h .0 .1 }) (others rs x (h .1)) e
-
-setting-others : (c : Call) (s : Setting) → Placeless (settingRules c s)
+setting-others : (c : Call) (s : Setting) → EveryRule Other (settingRules c s)
 setting-others c s =
-    ((refl, refl), ((refl, refl), ((refl, refl), ((refl, refl), ((refl, refl), ((refl, refl), ((refl, refl), ((refl, refl), tt))))))))
+    let o : (n : ℕ) → eqb n 10 ≡ false → Other (numbered n) = λ n e. record { not-10 = e; no-place = refl } in
+    (o 1 refl, (o 2 refl, (o 3 refl, (o 4 refl, (o 5 refl, (o 6 refl, (o 7 refl, (o 11 refl, tt))))))))
+
+pub size-others : (width height : ℕ) (layouts : List Layout) → EveryRule Other (sizeRules width height layouts)
+size-others width height layouts = (record { not-10 = refl; no-place = refl }, (record { not-10 = refl; no-place = refl }, tt))
 
 module _ (say : Admission → Meaning) (free : (x : Served) → say (admission.Served x) .number ≡ 0)
-    (refuses : (r : Refusal) → say (admission.Refused r) ≡ meaningRefusal r) (Bad : Place → Type 0)
+    (refuses : (r : Refusal) → say (admission.Refused r) ≡ meaningRefusal r) (Bad : Place → Type 0) (c : Call) (s : Setting) (sizes : List Rule)
+    (h : EveryRule Other sizes) (bad : Found) (means : (place : Place) → bad ≡ found.At place → Bad place)
   where
-    served-names : (x : Served) → NamesPlace Bad (say (admission.Served x))
-    served-names x =
-        let e = free x in
-        record { ten = λ t. absurd (omega arith); other = λ t u. absurd (t e); alone = λ t. absurd (t e) }
+    abbrev Names : Admission → Type 0
+    Names v = NamesPlace Bad (say v)
 
-    other-names : (r : Refusal) → Other r → NamesPlace Bad (say (admission.Refused r))
+    other-names : (r : Refusal) → Other r → Names (admission.Refused r)
     other-names r o =
         subst (NamesPlace Bad) (sym (refuses r))
         (record { ten = λ t. absurd (eqb-false _ _ (o .not-10) t); other = λ t u. o .no-place; alone = λ t. (refl, (refl, refl)) })
 
-    module _ (c : Call) (s : Setting) (sizes : List Rule) (h : Placeless sizes) (bad : Found) (means : (place : Place) → bad ≡ found.At place → Bad place) where
-      by-bad : (f : Found) → bad ≡ f → NamesPlace Bad (say (admitted (first (badRule f ∷ [])) (served s)))
-      unfolding first
-      by-bad (found.At place) e =
-          subst (NamesPlace Bad) (sym (refuses _))
-          (record { ten = λ t. means place e; other = λ t u. absurd (u refl); alone = λ t. (refl, (refl, refl)) })
-      by-bad found.Nothing e = served-names (served s)
-
-      abbrev Answer : Type 0
-      Answer = NamesPlace Bad (say (callAdmission c s sizes bad))
-
-      past-setting : first (settingRules c s) ≡ check.Passed → (k : Check) → first sizes ≡ k → Answer
-      past-setting e check.Passed f = subst (λ v. NamesPlace Bad (say v)) (by-sample c s sizes bad e f) (by-bad bad refl)
-      past-setting e (check.Refused r) f = subst (λ v. NamesPlace Bad (say v)) (by-size c s sizes bad r e f) (other-names r (others sizes r h f))
-
-      by-rules : (k : Check) → first (settingRules c s) ≡ k → Answer
-      by-rules check.Passed e = past-setting e (first sizes) refl
-      by-rules (check.Refused r) e = subst (λ v. NamesPlace Bad (say v)) (by-setting c s sizes bad r e) (other-names r (others (settingRules c s) r (setting-others c s) e))
-
-      pub names-place : Answer
-      names-place = by-rules (first (settingRules c s)) refl
+    pub names-place : Names (callAdmission c s sizes bad)
+    names-place =
+        let e = free (served s) in
+        each-answer Names c s sizes bad (λ r f. other-names r (first-has Other (settingRules c s) r (setting-others c s) f))
+        (λ r f. other-names r (first-has Other sizes r h f))
+        (λ f place g.
+        subst (NamesPlace Bad) (sym (refuses _))
+        (record { ten = λ t. means place g; other = λ t u. absurd (u refl); alone = λ t. (refl, (refl, refl)) }))
+        (record { ten = λ t. absurd (omega arith); other = λ t u. absurd (t e); alone = λ t. absurd (t e) })
 
 -- rule 10 on a picture and on a pixel of a side, as a fact; and on one sample, by its kind
 abbrev pub BadIn : Side → Setting → Picture → Place → Type 0
@@ -151,10 +126,10 @@ pub frame-places : (w : Way) (s : Setting) (a : Picture) (b : Layout) → NamesP
 unfolding frameAnswer
 frame-places w s a b =
     names-place (λ v. meaningOfFrame (frameBy v)) (λ x. refl) (λ r. refl) _ (call.Convert w) s (sizeRules (a .width) (a .height) (layoutOf a ∷ b ∷ []))
-    ((refl, refl), ((refl, refl), tt)) _ (λ place e. at-in-planes-means a _ place .0 e)
+    (size-others (a .width) (a .height) (layoutOf a ∷ b ∷ [])) _ (λ place e. at-in-planes-means a _ place .0 e)
 
 pub image-places : (s : Setting) (a : Picture) → NamesPlace (BadIn Ycc s a) (meaningOfImage (imageAnswer s a))
 unfolding imageAnswer
 image-places s a =
     names-place (λ v. meaningOfImage (imageBy v a)) (λ x. found-number (firstFailing (hasSource x) a)) (λ r. refl) _ call.ImageCheck s
-    (sizeRules (a .width) (a .height) (layoutOf a ∷ [])) ((refl, refl), ((refl, refl), tt)) _ (λ place e. at-in-planes-means a _ place .0 e)
+    (sizeRules (a .width) (a .height) (layoutOf a ∷ [])) (size-others (a .width) (a .height) (layoutOf a ∷ [])) _ (λ place e. at-in-planes-means a _ place .0 e)

@@ -12,7 +12,7 @@ use Rattle.refusal.specs.Rules.{Rule, first, FirstIs, NoneApplies}
 use Rattle.refusal.specs.declared.Check.{Check}
 use Rattle.refusal.specs.declared.Check.the-variants as check
 use Rattle.refusal.specs.declared.Refusal.{Refusal}
-use Rattle.refusal.proofs.RuleLaws.{never-both, same-refusal, refused-exactly, passed-exactly}
+use Rattle.refusal.proofs.RuleLaws.{never-both, same-refusal, refused-exactly, passed-exactly, EveryRule, first-has}
 use Rattle.setting.specs.Rules.{served, settingRules, admitted}
 use Rattle.setting.specs.declared.Call.{Call}
 use Rattle.setting.specs.declared.Call.the-variants as call
@@ -30,6 +30,7 @@ use Rattle.planes.specs.declared.search.Found.the-variants as found
 use Rattle.planes.specs.declared.size.Layout.{Layout}
 use Rattle.plan.specs.Source.{hasSource}
 use Rattle.admit.specs.Rules.{callRules, callAdmission, pictureRules, pixelRules, sampleRules}
+use Rattle.admit.proofs.AdmitLaws.{told-refused}
 use Rattle.frame.specs.Frame.{frameBy, frameAnswer}
 use Rattle.image_check.specs.Image.{firstFailing, answerFound, imageBy, imageAnswer}
 use Rattle.corkplover.specs.Answers.{convertedBy, pixelAnswer, sourceBy, sourceAnswer, readBy, reading, levelsBy, levelsAnswer}
@@ -44,24 +45,16 @@ pub record RefusedBy (m : Meaning) (rules : List Rule) : Type 0 where
 
 pub record Exactly (m : Meaning) (rules : List Rule) : Type 0 where
   pub given : (m .number ≡ 0 → ⊥) → RefusedBy m rules
-  pub only : {x : Refusal} → FirstIs x rules → m ≡ meaningRefusal x
+  pub only : (x : Refusal) → FirstIs x rules → m ≡ meaningRefusal x
   pub accepted : m .number ≡ 0 → NoneApplies rules
   pub free : NoneApplies rules → m .number ≡ 0
 
 -- rules whose numbers are not 0
-abbrev Numbered : List Rule → Type 0
-Numbered [] = Unit
-Numbered (r ∷ rs) = (eqb (r .refusal .number) 0 ≡ false) × Numbered rs
-
-number-step : (r : Rule) (t : Bool) (c : Check) (x : Refusal) → eqb (r .refusal .number) 0 ≡ false → (c ≡ check.Refused x → x .number ≡ 0 → ⊥)
-    → cond t (check.Refused (r .refusal)) c ≡ check.Refused x → x .number ≡ 0 → ⊥
-number-step r true c x h f e q = eqb-false _ _ h (ap (λ y. y .number) (same-refusal e) ∙ q)
-number-step r false c x h f e q = f e q
+abbrev pub Numbered : List Rule → Type 0
+Numbered rs = EveryRule (λ x. eqb (x .number) 0 ≡ false) rs
 
 not-zero : (rs : List Rule) (x : Refusal) → Numbered rs → first rs ≡ check.Refused x → x .number ≡ 0 → ⊥
-unfolding first
-not-zero [] x h e q = never-both x e
-not-zero (r ∷ rs) x h e q = number-step r (r .applies) (first rs) x (h .0) (not-zero rs x (h .1)) e q
+not-zero rs x h e q = eqb-false (x .number) 0 (first-has _ rs x h e) q
 
 all-numbered : (call : Call) (s : Setting) (sizes : List Rule) (bad : Found) → Numbered sizes → Numbered (callRules call s sizes bad)
 all-numbered call s sizes bad h = (refl, (refl, (refl, (refl, (refl, (refl, (refl, (refl, rest sizes h))))))))
@@ -82,14 +75,14 @@ module _ (say : Admission → Meaning) (free : (x : Served) → say (admission.S
     by-check rules x h check.Passed e =
         record {
           given = λ n. absurd (n (free x));
-          only = λ {y} f. absurd (never-both y (sym e ∙ refused-exactly rules y .1 f));
+          only = λ y f. absurd (never-both y (sym e ∙ refused-exactly rules y .1 f));
           accepted = λ n. passed-exactly rules .0 e;
           free = λ n. free x;
         }
     by-check rules x h (check.Refused r) e =
         record {
           given = λ n. record { refusal = r; is-first = refused-exactly rules r .0 e; is = refuses r };
-          only = λ {y} f. refuses r ∙ ap meaningRefusal (same-refusal (sym e ∙ refused-exactly rules y .1 f));
+          only = λ y f. refuses r ∙ ap meaningRefusal (same-refusal (sym e ∙ refused-exactly rules y .1 f));
           accepted = λ n. absurd (not-zero rules r h e (sym (ap (λ m. m .number) (refuses r)) ∙ n));
           free = λ n. absurd (never-both r (sym (passed-exactly rules .1 n) ∙ e));
         }
@@ -98,6 +91,13 @@ module _ (say : Admission → Meaning) (free : (x : Served) → say (admission.S
         → Exactly (say (callAdmission call s sizes bad)) (callRules call s sizes bad)
     unfolding callAdmission
     exactly call s sizes bad h = by-check (callRules call s sizes bad) (served s) (all-numbered call s sizes bad h) _ refl
+
+-- no refusal has the number 0
+pub not-refused : (call : Call) (s : Setting) (sizes : List Rule) (bad : Found) → Numbered sizes → (r : Refusal)
+    → callAdmission call s sizes bad ≡ admission.Refused r → r .number ≡ 0 → ⊥
+unfolding callAdmission
+not-refused call s sizes bad h r e =
+    not-zero (callRules call s sizes bad) r (all-numbered call s sizes bad h) (told-refused (first (callRules call s sizes bad)) (served s) r e)
 
 -- the source checks' word is no refusal
 pub picked-number : (b : Bool) → meaningOfSource (cond b source.Yes source.NoSource) .number ≡ 0

@@ -1,37 +1,41 @@
 -- What an exported call packs into one number comes out again: the refusal and the place of every answer, and the samples of an accepted
 -- pixel. So the promises on answers hold of the numbers that callers from other languages see.
 use mathlib.Core.Path.{_≡_, refl, sym, _∙_, subst}
-use mathlib.Core.Bool.{Bool, true, false, cond}
 use mathlib.Core.List.{List, [], _∷_}
-use Prim.Native.Nat.{ℕ, zero, suc, _^_, _<_}
+use Prim.Native.Nat.{ℕ, _^_, _<_}
 use native.Mathlib.Omega.{arith}
-use borrow.Author.Tests.{ne-eqb}
 use Rattle.sample.specs.Depth.{Depth, mostDepth, InsideRGB, InsideYCC}
 use Rattle.sample.specs.declared.Pixel.{Pixel}
+use Rattle.sample.specs.declared.Side.{Side}
+use Rattle.sample.specs.declared.Side.the-variants.{Ycc}
+use Rattle.setting.specs.Call.{inputOf}
 use Rattle.sample.proofs.DepthLaws.{powers}
 use Rattle.refusal.specs.Rules.{Rule, first, numbered, badAt}
 use Rattle.refusal.specs.declared.Place.{Place}
+use Rattle.refusal.specs.declared.Check.the-variants.{Passed}
 use Rattle.refusal.specs.declared.Refusal.{Refusal}
+use Rattle.refusal.proofs.RuleLaws.{EveryRule, first-has}
 use Rattle.planes.specs.declared.search.Found.{Found}
 use Rattle.planes.specs.declared.search.Found.the-variants as found
+use Rattle.planes.specs.Sizes.{sizeRules}
+use Rattle.planes.specs.declared.size.Layout.{Layout}
 use Rattle.planes.proofs.SearchTheorems.{at-in-planes-means, at-means}
-use Rattle.setting.specs.Rules.{depths, table, refusalOf, served, judged}
+use Rattle.setting.specs.Rules.{depths, served, settingRules}
 use Rattle.setting.specs.declared.Call.{Call}
 use Rattle.setting.specs.declared.Call.the-variants as call
 use Rattle.setting.specs.declared.Setting.{Setting}
-use Rattle.setting.specs.declared.admission.Served.{Served}
 use Rattle.setting.specs.declared.admission.Admission.{Admission}
 use Rattle.setting.specs.declared.admission.Admission.the-variants as admission
 use Rattle.meter.specs.Level.{planeNumber}
 use Rattle.meter.specs.declared.SampleKind.{SampleKind}
 use Rattle.meter.specs.declared.SampleKind.the-variants as kind
-use Rattle.plan.specs.Conversion.{convert, callOf}
+use Rattle.plan.specs.Conversion.{convert}
 use Rattle.setting.specs.declared.Way.{Way}
 use Rattle.setting.specs.declared.Way.the-variants.{Forward, Reverse}
 use Rattle.setting.proofs.ReadyLaws.{ready}
 use Rattle.plan.proofs.ConversionTheorems.{forward-inside, reverse-inside}
-use Rattle.admit.specs.Rules.{pastServed, past}
-use Rattle.admit.specs.Rules.{topOf, badPixel, badOne, admitted, admittedOne}
+use Rattle.admit.specs.Rules.{callAdmission, beyondDepth, pixelPicture, topOf, badOne}
+use Rattle.admit.proofs.AdmitLaws.{each-answer}
 use Rattle.corkplover.specs.Answers.{convertedBy, pixelAnswer, readBy, reading, levelsBy, levelsAnswer}
 use Rattle.corkplover.specs.declared.pixels.PixelAnswer.the-variants.{Converted}
 use Rattle.corkplover.specs.Meaning.{Meaning, meaningRefusal, meaningOfPixel, meaningOfReading, meaningOfLevels}
@@ -58,61 +62,47 @@ refusal-unpacked r h k =
 pub free-unpacked : (x : ℕ) (said : Meaning) → numberIn x ≡ 0 → said .number ≡ 0 → Unpacked x said
 free-unpacked x said e f = record { number-out = e ∙ sym f; place-out = λ t. absurd (t f) }
 
--- of a verdict, whatever was searched for a bad sample
-module _ (pack : Admission → ℕ) (say : Admission → Meaning) (x : Served) (free : Unpacked (pack (admission.Served x)) (say (admission.Served x)))
-    (packs : (r : Refusal) → pack (admission.Refused r) ≡ packedRefusal r) (refuses : (r : Refusal) → say (admission.Refused r) ≡ meaningRefusal r)
-    (f : Found)
-  where
-    by-refusal : (r : Refusal) → r .number < 256 → Fits (r .place) → Unpacked (pack (admission.Refused r)) (say (admission.Refused r))
-    by-refusal r h k = rw (packs r, refuses r) (refusal-unpacked r h k)
+-- a refusal that the fields have room for
+pub record Small (r : Refusal) : Type 0 where
+  pub number-small : r .number < 256
+  pub place-small : Fits (r .place)
 
-    by-found : ((place : Place) → f ≡ found.At place → Fits place) → (g : Found) → f ≡ g → Unpacked (pack (pastServed x g)) (say (pastServed x g))
-    by-found fit (found.At place) e = by-refusal (badAt place) (omega arith) (fit place e)
-    by-found fit found.Nothing e = free
+nowhere-small : (n : ℕ) → n < 256 → Small (numbered n)
+nowhere-small n h = record { number-small = h; place-small = record { plane-fits = omega arith; row-fits = omega arith; column-fits = omega arith } }
 
-    pub verdict-unpacked : (n : ℕ) → n < 256 → (n ≡ 0 → (place : Place) → f ≡ found.At place → Fits place)
-        → Unpacked (pack (past (judged n x) f)) (say (past (judged n x) f))
-    unfolding judged
-    verdict-unpacked zero h fit = by-found (fit refl) f refl
-    verdict-unpacked (suc n) h fit =
-        rw (ne-eqb (suc n) 0 (λ e. omega arith))
-        (by-refusal (numbered (suc n)) h (record { plane-fits = omega arith; row-fits = omega arith; column-fits = omega arith }))
-
--- the first row of a table has a number that some row has
-abbrev pub Small : List Rule → Type 0
-Small [] = Unit
-Small (r ∷ rs) = (r .number < 256) × Small rs
-
-pub pick-small : (t : Bool) (n m : ℕ) → n < 256 → m < 256 → cond t n m < 256
-pick-small true n m h k = h
-pick-small false n m h k = k
-
-pub first-small : (rs : List Rule) → Small rs → first rs < 256
-unfolding first
-first-small [] h = omega arith
-first-small (r ∷ rs) h = pick-small (r .applies) (r .number) (first rs) (h .0) (first-small rs (h .1))
-
-pub setting-small : (c : Call) (s : Setting) → refusalOf c s < 256
-unfolding refusalOf
+setting-small : (c : Call) (s : Setting) → EveryRule Small (settingRules c s)
 setting-small c s =
-    first-small (table c s)
-    (omega arith, (omega arith, (omega arith, (omega arith, (omega arith, (omega arith, (omega arith, (omega arith, tt))))))))
+    let n = nowhere-small in
+    (n 1 (omega arith), (n 2 (omega arith), (n 3 (omega arith), (n 4 (omega arith), (n 5 (omega arith), (n 6 (omega arith), (n 7 (omega arith), (n 11 (omega arith), tt))))))))
+
+pub sizes-small : (width height : ℕ) (layouts : List Layout) → EveryRule Small (sizeRules width height layouts)
+sizes-small width height layouts = (nowhere-small 8 (omega arith), (nowhere-small 9 (omega arith), tt))
+
+-- of any call, whatever was searched for a bad sample
+module _ (pack : Admission → ℕ) (say : Admission → Meaning) (c : Call) (s : Setting)
+    (free : Unpacked (pack (admission.Served (served s))) (say (admission.Served (served s))))
+    (packs : (r : Refusal) → pack (admission.Refused r) ≡ packedRefusal r) (refuses : (r : Refusal) → say (admission.Refused r) ≡ meaningRefusal r)
+    (sizes : List Rule) (small : EveryRule Small sizes) (bad : Found)
+    (fit : first sizes ≡ Passed → (place : Place) → bad ≡ found.At place → Fits place)
+  where
+    abbrev Out : Admission → Type 0
+    Out v = Unpacked (pack v) (say v)
+
+    by-refusal : (r : Refusal) → Small r → Out (admission.Refused r)
+    by-refusal r h = rw (packs r, refuses r) (refusal-unpacked r (h .number-small) (h .place-small))
+
+    pub call-unpacked : Out (callAdmission c s sizes bad)
+    call-unpacked =
+        each-answer Out c s sizes bad (λ r e. by-refusal r (first-has Small (settingRules c s) r (setting-small c s) e))
+        (λ r e. by-refusal r (first-has Small sizes r small e))
+        (λ e place f. by-refusal (badAt place) (record { number-small = omega arith; place-small = fit e place f })) free
 
 -- ---- calls on a pixel or a sample
 
-pixel-fits : (w : Way) (s : Setting) (p : Pixel) (place : Place) → badPixel w (depths s) p ≡ found.At place → Fits place
-pixel-fits w s p place e =
-    let b = at-in-planes-means _ 1 1 1 _ place .0 e in
+pixel-fits : (side : Side) (s : Setting) (p : Pixel) (place : Place) → beyondDepth side (depths s) (pixelPicture p) ≡ found.At place → Fits place
+pixel-fits side s p place e =
+    let b = at-in-planes-means (pixelPicture p) _ place .0 e in
     record { plane-fits = omega (arith, b .plane-inside); row-fits = omega (arith, b .first-there .row-inside); column-fits = omega (arith, b .first-there .column-inside) }
-
-module _ (c : Call) (w : Way) (s : Setting) (p : Pixel) (pack : Admission → ℕ) (say : Admission → Meaning)
-    (free : Unpacked (pack (admission.Served (served s))) (say (admission.Served (served s))))
-    (packs : (r : Refusal) → pack (admission.Refused r) ≡ packedRefusal r) (refuses : (r : Refusal) → say (admission.Refused r) ≡ meaningRefusal r)
-  where
-    on-pixel : Unpacked (pack (admitted c w s p)) (say (admitted c w s p))
-    unfolding admitted
-    on-pixel =
-        verdict-unpacked pack say (served s) free packs refuses (badPixel w (depths s) p) (refusalOf c s) (setting-small c s) (λ z. pixel-fits w s p)
 
 -- samples leave the number alone
 samples-above : (a b c : ℕ) → numberIn (packed 0 0 a b c) ≡ 0
@@ -122,13 +112,14 @@ pub pixel-unpacked : (w : Way) (s : Setting) (p : Pixel) → Unpacked (packedPix
 unfolding pixelAnswer
 pixel-unpacked w s p =
     let q = convert w (served s) p in
-    on-pixel (callOf w) w s p (λ v. packedPixel (convertedBy w p v)) (λ v. meaningOfPixel (convertedBy w p v))
-    (free-unpacked _ _ (samples-above (q .p0) (q .p1) (q .p2)) refl) (λ r. refl) (λ r. refl)
+    call-unpacked (λ v. packedPixel (convertedBy w p v)) (λ v. meaningOfPixel (convertedBy w p v)) (call.Convert w) s
+    (free-unpacked _ _ (samples-above (q .p0) (q .p1) (q .p2)) refl) (λ r. refl) (λ r. refl) [] tt _ (λ z. pixel-fits (inputOf w) s p)
 
 pub levels-unpacked : (s : Setting) (p : Pixel) → Unpacked (packedLevels (levelsAnswer s p)) (meaningOfLevels (levelsAnswer s p))
 unfolding levelsAnswer
 levels-unpacked s p =
-    on-pixel call.Meter Reverse s p (λ v. packedLevels (levelsBy p v)) (λ v. meaningOfLevels (levelsBy p v)) (free-unpacked _ _ refl refl) (λ r. refl) (λ r. refl)
+    call-unpacked (λ v. packedLevels (levelsBy p v)) (λ v. meaningOfLevels (levelsBy p v)) call.Meter s (free-unpacked _ _ refl refl) (λ r. refl)
+    (λ r. refl) [] tt _ (λ z. pixel-fits Ycc s p)
 
 kind-fits : (k : SampleKind) → planeNumber k < 256
 kind-fits kind.Y = omega arith
@@ -145,10 +136,10 @@ sample-fits k s v place e =
     }
 
 pub reading-unpacked : (k : SampleKind) (s : Setting) (v : ℕ) → Unpacked (packedReading (reading k s v)) (meaningOfReading (reading k s v))
-unfolding reading admittedOne
+unfolding reading
 reading-unpacked k s v =
-    verdict-unpacked (λ d. packedReading (readBy k v d)) (λ d. meaningOfReading (readBy k v d)) (served s) (free-unpacked _ _ refl refl) (λ r. refl) (λ r. refl)
-    (badOne k (depths s) v) (refusalOf call.Meter s) (setting-small call.Meter s) (λ z. sample-fits k s v)
+    call-unpacked (λ d. packedReading (readBy k v d)) (λ d. meaningOfReading (readBy k v d)) call.Meter s (free-unpacked _ _ refl refl) (λ r. refl)
+    (λ r. refl) [] tt _ (λ z. sample-fits k s v)
 
 -- the samples of an accepted pixel
 below : (d v : ℕ) → Depth d → v < 2 ^ d → v < 65536
@@ -161,22 +152,22 @@ samples-out q h k l =
     (f .first-out, (f .middle-out, f .last-out))
 
 module _ (s : Setting) (p : Pixel) where
-  pub forward-samples : refusalOf call.Forward s ≡ 0 → InsideRGB (depths s) p
+  pub forward-samples : first (settingRules (call.Convert Forward) s) ≡ Passed → InsideRGB (depths s) p
       → let q = convert Forward (served s) p in
       let x = packedPixel (pixelAnswer Forward s p) in
       (firstIn x ≡ q .p0) × ((middleIn x ≡ q .p1) × (lastIn x ≡ q .p2))
   forward-samples e h =
-      let r = ready call.Forward s e in
+      let r = ready (call.Convert Forward) s e in
       let i = forward-inside (served s) p r h in
       rw (accepted Forward s p e h)
       (samples-out (convert Forward (served s) p) (below _ _ (r .three .luma) (i .in0)) (below _ _ (r .three .chroma) (i .in1)) (below _ _ (r .three .chroma) (i .in2)))
 
-  pub reverse-samples : refusalOf call.Reverse s ≡ 0 → InsideYCC (depths s) p
+  pub reverse-samples : first (settingRules (call.Convert Reverse) s) ≡ Passed → InsideYCC (depths s) p
       → let q = convert Reverse (served s) p in
       let x = packedPixel (pixelAnswer Reverse s p) in
       (firstIn x ≡ q .p0) × ((middleIn x ≡ q .p1) × (lastIn x ≡ q .p2))
   reverse-samples e h =
-      let r = ready call.Reverse s e in
+      let r = ready (call.Convert Reverse) s e in
       let i = reverse-inside (served s) p r h in
       rw (accepted Reverse s p e h)
       (samples-out (convert Reverse (served s) p) (below _ _ (r .three .rgb) (i .in0)) (below _ _ (r .three .rgb) (i .in1)) (below _ _ (r .three .rgb) (i .in2)))

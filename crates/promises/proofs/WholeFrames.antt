@@ -10,21 +10,20 @@ use Rattle.sample.specs.Depth.{isDepth, areDepths, atMost}
 use Rattle.refusal.specs.Rules.{first, at}
 use Rattle.refusal.specs.declared.Place.{Place}
 use Rattle.refusal.specs.declared.Refusal.{Refusal}
-use Rattle.planes.specs.First.{orFound, firstOf, placeIf, placeInRow, firstPlace, firstBad, badSample}
+use Rattle.planes.specs.First.{orFound, firstOf, placeIf, placeInRow, firstPlace, badSample}
 use Rattle.planes.specs.Plane.{tab, cell, planeOf}
-use Rattle.planes.specs.Sizes.{layout, outside, someSide, pictureOutside, anyShort, sideShort, sizeRefusal}
+use Rattle.planes.specs.Sizes.{layout, outside, someLayout, sizeOutside, anyShort, layoutShort}
 use Rattle.planes.specs.declared.size.Layout.{Layout}
 use Rattle.ycgco.specs.YCgCo.{losslessForward, losslessReverse}
 use Rattle.setting.specs.Label.{among, labelled}
 use Rattle.setting.specs.Matrix.{matrixOf}
-use Rattle.setting.specs.Agreement.{depthsServed}
-use Rattle.setting.specs.Rules.{refusalOf, judged}
+use Rattle.setting.specs.Agreement.{depthsServed, agree}
 use Rattle.setting.specs.declared.Setting.{Setting}
 use Rattle.plan.specs.Conversion.{convert}
 use Rattle.plan.specs.Source.{hasSource}
 use Rattle.setting.specs.declared.Way.the-variants.{Forward}
 use Rattle.planes.specs.Picture.{Picture, picture}
-use Rattle.admit.specs.Rules.{pictureVerdict}
+use Rattle.admit.specs.Rules.{callAdmission}
 use Rattle.frame.specs.Frame.{frameAnswer, outPlane}
 use Rattle.frame.specs.declared.FrameAnswer.the-variants.{Done, Refused}
 use Rattle.image_check.specs.Image.{imageAnswer}
@@ -40,23 +39,23 @@ abbrev left : Setting → Picture → Layout → List (List ℕ)
 left s a b = outPlane 0 Forward s a b ∷ outPlane 1 Forward s a b ∷ outPlane 2 Forward s a b ∷ []
 
 -- the rules' own frame: width 2, height 1, strides 3, and planes of four elements to be written
-abbrev source : Picture
-source = picture 2 1 3 (255 ∷ 0 ∷ 7 ∷ []) (0 ∷ 255 ∷ 7 ∷ []) (0 ∷ 0 ∷ 7 ∷ [])
+abbrev input : Picture
+input = picture 2 1 3 (255 ∷ 0 ∷ 7 ∷ []) (0 ∷ 255 ∷ 7 ∷ []) (0 ∷ 0 ∷ 7 ∷ [])
 
 abbrev output : Layout
 output = layout 3 4 4 4
 
-pub whole-answer : frameAnswer Forward setting source output ≡ Done
-unfolding frameAnswer pictureVerdict refusalOf judged first matrixOf labelled among depthsServed areDepths isDepth atMost sizeRefusal pictureOutside outside someSide sideShort anyShort badSample firstBad firstPlace placeInRow placeIf firstOf orFound
+pub whole-answer : frameAnswer Forward setting input output ≡ Done
+unfolding frameAnswer callAdmission first matrixOf labelled among depthsServed agree areDepths isDepth atMost sizeOutside outside someLayout layoutShort anyShort badSample firstPlace placeInRow placeIf firstOf orFound
 whole-answer = refl
 
-pub whole-frame : left setting source output ≡ (63 ∷ 127 ∷ 0 ∷ 0 ∷ []) ∷ (129 ∷ 511 ∷ 0 ∷ 0 ∷ []) ∷ (511 ∷ 256 ∷ 0 ∷ 0 ∷ []) ∷ []
-unfolding outPlane pictureVerdict refusalOf judged first matrixOf labelled among depthsServed areDepths isDepth atMost sizeRefusal pictureOutside outside someSide sideShort anyShort badSample firstBad firstPlace placeInRow placeIf firstOf orFound planeOf tab cell convert losslessForward half sample
+pub whole-frame : left setting input output ≡ (63 ∷ 127 ∷ 0 ∷ 0 ∷ []) ∷ (129 ∷ 511 ∷ 0 ∷ 0 ∷ []) ∷ (511 ∷ 256 ∷ 0 ∷ 0 ∷ []) ∷ []
+unfolding outPlane callAdmission first matrixOf labelled among depthsServed agree areDepths isDepth atMost sizeOutside outside someLayout layoutShort anyShort badSample firstPlace placeInRow placeIf firstOf orFound planeOf tab cell convert losslessForward half sample
 whole-frame = refl
 
 -- the same with a matrix that is reserved: every element is zeroed
-pub refused-frame : left (with 17 8 8 9 true true) source output ≡ (0 ∷ 0 ∷ 0 ∷ 0 ∷ []) ∷ (0 ∷ 0 ∷ 0 ∷ 0 ∷ []) ∷ (0 ∷ 0 ∷ 0 ∷ 0 ∷ []) ∷ []
-unfolding outPlane pictureVerdict refusalOf judged first matrixOf labelled among depthsServed areDepths isDepth atMost sizeRefusal pictureOutside outside someSide sideShort anyShort badSample firstBad firstPlace placeInRow placeIf firstOf orFound tab
+pub refused-frame : left (with 17 8 8 9 true true) input output ≡ (0 ∷ 0 ∷ 0 ∷ 0 ∷ []) ∷ (0 ∷ 0 ∷ 0 ∷ 0 ∷ []) ∷ (0 ∷ 0 ∷ 0 ∷ 0 ∷ []) ∷ []
+unfolding outPlane callAdmission first matrixOf labelled among depthsServed agree areDepths isDepth atMost sizeOutside outside someLayout layoutShort anyShort badSample firstPlace placeInRow placeIf firstOf orFound tab
 refused-frame = refl
 
 -- red above green, one pixel wide
@@ -64,7 +63,7 @@ abbrev tall : Picture
 tall = picture 1 2 1 (255 ∷ 0 ∷ []) (0 ∷ 255 ∷ []) (0 ∷ 0 ∷ [])
 
 pub tall-frame : left setting tall (layout 1 2 2 2) ≡ (63 ∷ 127 ∷ []) ∷ (129 ∷ 511 ∷ []) ∷ (511 ∷ 256 ∷ []) ∷ []
-unfolding outPlane pictureVerdict refusalOf judged first matrixOf labelled among depthsServed areDepths isDepth atMost sizeRefusal pictureOutside outside someSide sideShort anyShort badSample firstBad firstPlace placeInRow placeIf firstOf orFound planeOf tab cell convert losslessForward half sample
+unfolding outPlane callAdmission first matrixOf labelled among depthsServed agree areDepths isDepth atMost sizeOutside outside someLayout layoutShort anyShort badSample firstPlace placeInRow placeIf firstOf orFound planeOf tab cell convert losslessForward half sample
 tall-frame = refl
 
 -- one pixel that has an image source and one that has none: its blue would be negative
@@ -72,11 +71,11 @@ abbrev one : ℕ → ℕ → ℕ → Picture
 one y cb cr = picture 1 1 1 (y ∷ []) (cb ∷ []) (cr ∷ [])
 
 pub red-picture-has-source : imageAnswer setting (one 63 129 511) ≡ Yes
-unfolding imageAnswer pictureVerdict refusalOf judged first matrixOf labelled among depthsServed areDepths isDepth atMost sizeRefusal pictureOutside outside someSide sideShort anyShort badSample firstBad firstPlace placeInRow placeIf firstOf orFound hasSource convert losslessForward losslessReverse half clip sample
+unfolding imageAnswer callAdmission first matrixOf labelled among depthsServed agree areDepths isDepth atMost sizeOutside outside someLayout layoutShort anyShort badSample firstPlace placeInRow placeIf firstOf orFound hasSource convert losslessForward losslessReverse half clip sample
 red-picture-has-source = refl
 
 pub none-picture-has-source : imageAnswer setting (one 0 256 511) ≡ NoSource (at 0 0 0)
-unfolding imageAnswer pictureVerdict refusalOf judged first matrixOf labelled among depthsServed areDepths isDepth atMost sizeRefusal pictureOutside outside someSide sideShort anyShort badSample firstBad firstPlace placeInRow placeIf firstOf orFound hasSource convert losslessForward losslessReverse half clip sample
+unfolding imageAnswer callAdmission first matrixOf labelled among depthsServed agree areDepths isDepth atMost sizeOutside outside someLayout layoutShort anyShort badSample firstPlace placeInRow placeIf firstOf orFound hasSource convert losslessForward losslessReverse half clip sample
 none-picture-has-source = refl
 
 -- ---- wrong boxes: what each would answer or leave there is not so
@@ -86,26 +85,26 @@ abbrev element : ℕ → ℕ → List (List ℕ) → ℕ
 element k n planes = getD (getD planes k []) n 0
 
 -- refuses everything
-pub refuses-frames : (r : Refusal) → frameAnswer Forward setting source output ≡ Refused r → ⊥
+pub refuses-frames : (r : Refusal) → frameAnswer Forward setting input output ≡ Refused r → ⊥
 refuses-frames r e = let f = whole-answer in true≢false cc
 
 -- one fixed colour: the same sample wherever the picture is
-pub fixed-colour-frame : element 0 0 (left setting source output) ≡ element 0 1 (left setting source output) → ⊥
+pub fixed-colour-frame : element 0 0 (left setting input output) ≡ element 0 1 (left setting input output) → ⊥
 fixed-colour-frame e = let q = ap (element 0 0) whole-frame in let r = ap (element 0 1) whole-frame in omega (arith, e, q, r)
 
 -- planes copied straight through
-pub copied-through : element 0 0 (left setting source output) ≡ 255 → ⊥
+pub copied-through : element 0 0 (left setting input output) ≡ 255 → ⊥
 copied-through e = omega (arith, e, ap (element 0 0) whole-frame)
 
 -- writes nothing, or the picture area alone: a nine of the last client is still there
-pub nothing-written : element 0 0 (left setting source output) ≡ 9 → ⊥
+pub nothing-written : element 0 0 (left setting input output) ≡ 9 → ⊥
 nothing-written e = omega (arith, e, ap (element 0 0) whole-frame)
 
-pub padding-kept : element 0 2 (left setting source output) ≡ 9 → ⊥
+pub padding-kept : element 0 2 (left setting input output) ≡ 9 → ⊥
 padding-kept e = omega (arith, e, ap (element 0 2) whole-frame)
 
 -- leaves the planes alone on a refusal
-pub left-on-refusal : element 0 0 (left (with 17 8 8 9 true true) source output) ≡ 9 → ⊥
+pub left-on-refusal : element 0 0 (left (with 17 8 8 9 true true) input output) ≡ 9 → ⊥
 left-on-refusal e = omega (arith, e, ap (element 0 0) refused-frame)
 
 -- only the first row converted

@@ -12,14 +12,16 @@ use Rattle.setting.specs.Matrix.{matrixOf}
 use Rattle.setting.specs.declared.Way.the-variants.{Forward, Reverse}
 use Rattle.corkplover.specs.Answers.{pixelAnswer, sourceAnswer}
 use Rattle.corkplover.specs.declared.pixels.SourceAnswer.the-variants as source
-use Rattle.admit.specs.Rules.{admitted}
+use Rattle.admit.specs.Rules.{callAdmission}
 use Rattle.rounding.specs.Rounding.{half, clip, sample}
 use Rattle.sample.specs.Depth.{isDepth, areDepths, atMost}
-use Rattle.refusal.specs.Rules.{first}
-use Rattle.planes.specs.First.{orFound, firstOf, placeIf, placeInRow, firstPlace, firstBad, badSample}
+use Rattle.refusal.specs.Rules.{first, numbered}
+use Rattle.refusal.specs.declared.Check.{Check}
+use Rattle.refusal.specs.declared.Check.the-variants as check
+use Rattle.planes.specs.First.{orFound, firstOf, placeIf, placeInRow, firstPlace, badSample}
 use Rattle.ycgco.specs.YCgCo.{losslessForward, losslessReverse}
-use Rattle.setting.specs.Agreement.{depthsServed}
-use Rattle.setting.specs.Rules.{refusalOf, judged}
+use Rattle.setting.specs.Agreement.{depthsServed, agree}
+use Rattle.setting.specs.Rules.{settingRules}
 use Rattle.setting.specs.declared.Call.the-variants as call
 use Rattle.setting.specs.declared.Setting.{Setting}
 use Rattle.plan.specs.Conversion.{convert}
@@ -83,18 +85,18 @@ fixed-colour p e f = let q = apart red e in let r = apart green f in omega arith
 
 -- a source check that always says yes, or never: the red pixel has a source, the other would need a negative blue
 pub red-has-source : sourceAnswer (with 8 8 8 9 true true) (pixel 63 129 511) ≡ source.Yes
-unfolding sourceAnswer admitted refusalOf judged first matrixOf labelled among depthsServed areDepths isDepth atMost badSample firstBad firstPlace placeInRow placeIf firstOf orFound hasSource convert losslessForward losslessReverse half clip sample
+unfolding sourceAnswer callAdmission first matrixOf labelled among depthsServed agree areDepths isDepth atMost badSample firstPlace placeInRow placeIf firstOf orFound hasSource convert losslessForward losslessReverse half clip sample
 red-has-source = refl
 
 pub none-has-source : sourceAnswer (with 8 8 8 9 true true) (pixel 0 256 511) ≡ source.NoSource
-unfolding sourceAnswer admitted refusalOf judged first matrixOf labelled among depthsServed areDepths isDepth atMost badSample firstBad firstPlace placeInRow placeIf firstOf orFound hasSource convert losslessForward losslessReverse half clip sample
+unfolding sourceAnswer callAdmission first matrixOf labelled among depthsServed agree areDepths isDepth atMost badSample firstPlace placeInRow placeIf firstOf orFound hasSource convert losslessForward losslessReverse half clip sample
 none-has-source = refl
 
 -- a list of lossless settings that is empty or too long: codes 0, 8 with chroma one bit deeper, 15 and 16 are taken by the image check;
 -- code 8 with chroma as deep as luma, and a luma matrix, are not
-abbrev checked : List Setting → List ℕ
+abbrev checked : List Setting → List Check
 checked [] = []
-checked (s ∷ ss) = refusalOf call.ImageCheck s ∷ checked ss
+checked (s ∷ ss) = first (settingRules call.ImageCheck s) ∷ checked ss
 
 pub lossless-settings : checked
     (with 0 8 8 8 true true
@@ -104,6 +106,6 @@ pub lossless-settings : checked
     ∷ with 8 8 8 8 true true
     ∷ with 1 8 8 8 true true
     ∷ [])
-    ≡ 0 ∷ 0 ∷ 0 ∷ 0 ∷ 11 ∷ 11 ∷ []
-unfolding refusalOf first matrixOf labelled among depthsServed areDepths isDepth atMost
+    ≡ check.Passed ∷ check.Passed ∷ check.Passed ∷ check.Passed ∷ check.Refused (numbered 11) ∷ check.Refused (numbered 11) ∷ []
+unfolding first matrixOf labelled among depthsServed agree areDepths isDepth atMost
 lossless-settings = refl

@@ -79,3 +79,17 @@ passed-over r rs e = go (r .applies) e
     go : (t : Bool) → cond t (Refused (r .refusal)) (first rs) ≡ Passed → (t ≡ false) × (first rs ≡ Passed)
     go true e = absurd (true≢false cc)
     go false e = (refl, e)
+
+-- a fact of every refusal of a list, and so of the one that is given
+abbrev pub EveryRule : (Refusal → Type 0) → List Rule → Type 0
+EveryRule P [] = Unit
+EveryRule P (r ∷ rs) = P (r .refusal) × EveryRule P rs
+
+has-step : (P : Refusal → Type 0) (x y : Refusal) (t : Bool) (c : Check) → P x → (c ≡ Refused y → P y) → cond t (Refused x) c ≡ Refused y → P y
+has-step P x y true c h f e = subst P (same-refusal e) h
+has-step P x y false c h f e = f e
+
+pub first-has : (P : Refusal → Type 0) (rs : List Rule) (x : Refusal) → EveryRule P rs → first rs ≡ Refused x → P x
+unfolding first
+first-has P [] x h e = absurd (never-both x e)
+first-has P (r ∷ rs) x h e = has-step P (r .refusal) x (r .applies) (first rs) (h .0) (first-has P rs x (h .1)) e
