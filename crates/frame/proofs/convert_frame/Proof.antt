@@ -19,22 +19,30 @@ output c = outputLayout (c .args .size) (length (c .args .b0 .now)) (length (c .
 
 -- the call was let in
 let-in : (c : tie.After-served)
-    → let s = c .before .before .before .before .before .before .before .before .before in frameAdmission (s .args .way) (s .args .s) (input s) (output s) ≡ admission.Served (c .served .given .0 .0)
+    → let s = c .before .before .before .before .before .before .before .before .before in
+    frameAdmission (s .args .way) (s .args .s) (input s) (output s) ≡ admission.Served (c .served .given .0 .0)
 let-in c = sym (c .before .before .admit-picture .ensures) ∙ c .served .given .1
 
 plan-of-requires : tie.Need-plan-of-requires
-plan-of-requires c κs = all-ready _ _ (input (c .before .before .before .before .before .before .before .before .before .before)) (output (c .before .before .before .before .before .before .before .before .before .before)) _ (let-in (c .before))
+plan-of-requires c κs =
+    let s = c .before .before .before .before .before .before .before .before .before .before in
+    all-ready _ _ (input s) (output s) _ (let-in (c .before))
 
 paint-requires : tie.Need-paint-requires
-paint-requires c κs = let s = c .before .before .before .before .before .before .before .before .before .before .before .before .before .before in paintable _ _ (input s) (output s) _ (let-in (c .before .before .before .before .before)) _ (c .before .before .before .plan-of .ensures)
+paint-requires c κs =
+    let p = c .before .before .before in
+    let s = p .before .before .before .before .before .before .before .before .before .before .before in
+    paintable _ _ (input s) (output s) _ (let-in (p .before .before)) _ (p .plan-of .ensures)
 
 returns : tie.Need-returns
-returns c = let s = c .before .before .before .before .before .before .before .before .before .before .before .before .before .before .before .before .before .before .before .before .before in painted _ _ (input s) (output s) _ (let-in (c .before .before .before .before .before .before .before .before .before .before .before .before)) _ (c .before .before .before .before .before .before .before .before .before .before .plan-of .ensures) (c .before .before .before .before .before .before .paint .ensures)
+returns c =
+    let p = c .before .before .before .before .before .before .before .before .before .before in
+    painted _ _ _ _ _ (let-in (p .before .before)) _ (p .plan-of .ensures) (c .before .before .before .before .before .before .paint .ensures)
 
 returns-2 : tie.Need-returns-2
 returns-2 c =
-    let s = c .before .before .before .before .before .before .before .before .before .before .before .before .before .before .before .before .before .before .before .before in
-    zeroed _ _ (input s) (output s) _ (sym (c .before .before .before .before .before .before .before .before .before .before .before .before .before .admit-picture .ensures) ∙ c .before .before .before .before .before .before .before .before .before .before .before .refusal .given .1) (c .before .before .before .before .before .before .zero-three .ensures)
+    let r = c .before .before .before .before .before .before .before .before .before .before .before in
+    zeroed _ _ _ _ _ (sym (r .before .before .admit-picture .ensures) ∙ r .refusal .given .1) (c .before .before .before .before .before .before .zero-three .ensures)
 
 pub convert-frame-spec : {M : Type 1} → statement M
 convert-frame-spec =

@@ -1,5 +1,4 @@
 -- `frame::paint::paint` meets its contract: with each turn the planes are painted one row further, and in the end the rest is zeros.
-use mathlib.Core.Path.{refl}
 use Prim.Native.Nat.{_-_}
 use native.Mathlib.Omega.{arith}
 use borrow.Author.Needs.{needs}
@@ -9,7 +8,7 @@ use Rattle.planes.specs.Sizes.{layout}
 use Rattle.planes.specs.declared.size.Layout.{Layout}
 use Rattle.plan.specs.Plan.{planned, Takes}
 use Rattle.frame.specs.Frame.{inputPicture, outputLayout}
-use Rattle.frame.proofs.PaintLaws.{part-every, Painting, painting-none, Turn, input-long, gap-long, row-long, painting-more, rest-long, painting-end}
+use Rattle.frame.proofs.PaintLaws.{Painting, painting-none, Turn, output-long, row-lent, painting-more, rest-long, painting-end}
 use Rattle.frame.proofs.paint.paint.Statement.{statement}
 use Rattle.frame.proofs.paint.paint.Tie as tie
 
@@ -42,44 +41,41 @@ turn c =
     }
 
 loop-holds : tie.Need-loop-holds Inv-loop μ-loop
-loop-holds c = painting-none _ _ _ (c .before .before .before .before .before .before .pre .1 .1 .0) refl refl refl
+loop-holds c = painting-none (c .before .before .before .before .before .before .pre .1 .1 .0)
 
 zero-gap-requires : tie.Need-zero-gap-requires Inv-loop μ-loop
-zero-gap-requires c κs = let k = gap-long (turn (c .before .before .before)) in omega arith
+zero-gap-requires c κs = let k = output-long (turn (c .before .before .before)) in omega arith
 
 paint-row-requires : tie.Need-paint-row-requires Inv-loop μ-loop
 paint-row-requires c κs =
-    let t = turn (c .before .before .before .before .before .before .before .before .before .before .before .before .before) in
-    let s = c .before .before .before .before .before .before .before .before .before .before .before .before .before .before .before .before .before .before .before .before .before .before .before in
+    let r = c .before .before .before .before .before .before .before .before .before .before .before .before .before in
+    let s = r .before .before .before .before .before .before .before .before .before .before in
     let kept = c .before .before .before .before .before .before .before .before .before .zero-gap .kept in
-    let long = input-long t in
-    let room = row-long t _ _ _ (kept .0) (kept .1 .0) (kept .1 .1 .0) in
-    let taken = part-every (input s) (c .before .before .before .before .before .before .before .before .before .before .before .before .before .before .before .before .loop .j) _ (t .starts-from .is) (Takes (s .args .plan)) (s .pre .1 .1 .1) (t .row-inside) (long .long0) in
-    (s .pre .0, (long, (omega arith, taken)))
+    (s .pre .0, row-lent (turn r) (Takes (s .args .plan)) (s .pre .1 .1 .1) (kept .0) (kept .1 .0) (kept .1 .1 .0))
+
+-- the start of a turn, from where its row is painted
+abbrev begun : tie.After-slice-known9 Inv-loop μ-loop → tie.After-row-start2 Inv-loop μ-loop
+begun c = c .before .before .before .before .before .before .before .before .before .before .before .before .before .before .before .before .before .before .before .before
 
 add-done : tie.Need-add-done Inv-loop μ-loop
-add-done c = let t = turn (c .before .before .before .before .before .before .before .before .before .before .before .before .before .before .before .before .before .before .before .before) in omega (arith, t .starts-to .most, t .so-far .fits)
+add-done c = let t = turn (begun c) in omega (arith, t .starts-to .most, t .so-far .fits)
 
 add-j : tie.Need-add-j Inv-loop μ-loop
-add-j c = let t = turn (c .before .before .before .before .before .before .before .before .before .before .before .before .before .before .before .before .before .before .before .before) in omega (arith, t .row-inside, t .so-far .fits)
+add-j c = let t = turn (begun c) in omega (arith, t .row-inside, t .so-far .fits)
 
 loop-less : tie.Need-loop-less Inv-loop μ-loop
-loop-less c = let t = turn (c .before .before .before .before .before .before .before .before .before .before .before .before .before .before .before .before .before .before .before .before) in omega (arith, t .row-inside)
+loop-less c = omega (arith, turn (begun c) .row-inside)
 
 loop-again : tie.Need-loop-again Inv-loop μ-loop
-loop-again c =
-    painting-more (turn (c .before .before .before .before .before .before .before .before .before .before .before .before .before .before .before .before .before .before .before .before))
-    (c .before .before .before .before .before .before .before .before .before .before .before .before .before .before .before .before .zero-gap .ensures)
-    (c .before .before .before .before .before .before .paint-row .ensures)
+loop-again c = painting-more (turn (begun c)) (c .before .before .before .before .before .before .before .before .before .before .before .before .before .before .before .before .zero-gap .ensures) (c .before .before .before .before .before .before .paint-row .ensures)
 
 zero-rest-requires : tie.Need-zero-rest-requires Inv-loop μ-loop
 zero-rest-requires c κs = let k = rest-long (c .before .before .before .before .loop .inv) in omega arith
 
 returns : tie.Need-returns Inv-loop μ-loop
 returns c =
-    painting-end (c .before .before .before .before .before .before .before .before .before .before .before .loop .inv)
-    (c .before .before .before .before .before .before .before .before .before .before .loop-test .left)
-    (c .before .before .before .before .before .before .zero-rest .ensures)
+    let l = c .before .before .before .before .before .before .before .before .before .before in
+    painting-end (l .before .loop .inv) (l .loop-test .left) (c .before .before .before .before .before .before .zero-rest .ensures)
 
 pub paint-spec : {M : Type 1} → statement M
 paint-spec =
