@@ -3,9 +3,8 @@ use Prim.Native.Nat.{_-_}
 use native.Mathlib.Omega.{arith}
 use borrow.Author.Needs.{needs}
 use lib.ListN.{length}
-use Rattle.planes.specs.Picture.{Picture, picture}
+use Rattle.planes.specs.Picture.{picture}
 use Rattle.planes.specs.Sizes.{layout}
-use Rattle.planes.specs.declared.size.Layout.{Layout}
 use Rattle.plan.specs.Plan.{planned, Takes}
 use Rattle.frame.specs.Frame.{inputPicture, outputLayout}
 use Rattle.frame.proofs.PaintLaws.{Painting, painting-none, Turn, output-long, row-lent, painting-more, rest-long, painting-end}
@@ -19,18 +18,13 @@ Inv-loop plan a0 a1 a2 b0₀ b1₀ b2₀ width height input-stride output-stride
 abbrev μ-loop : tie.MeasureT-loop
 μ-loop plan a0 a1 a2 b0₀ b1₀ b2₀ width height input-stride output-stride done₀ j₀ b0 b1 b2 done j = height - j
 
--- the picture that is read, and the layout of the planes that are written
-abbrev input : tie.Start Inv-loop μ-loop → Picture
-input c = inputPicture (c .args .size) (c .args .a0 .now) (c .args .a1 .now) (c .args .a2 .now)
-
-abbrev output : tie.Start Inv-loop μ-loop → Layout
-output c = outputLayout (c .args .size) (length (c .args .b0 .now)) (length (c .args .b1 .now)) (length (c .args .b2 .now))
-
 -- a turn, once both starts of its row are known
 turn : (c : tie.After-row-start2 Inv-loop μ-loop)
-    → let s = c .before .before .before .before .before .before .before .before .before .before in
+    → let x = c .before .before .before .before .before .before .before .before .before .before .args in
     let l = c .before .before .before .loop in
-    Turn (planned (s .args .plan)) (input s) (output s) (l .b0) (l .b1) (l .b2) (l .j) (l .done) (c .before .row-start .result) (c .row-start2 .result)
+    Turn (planned (x .plan)) (inputPicture (x .size) (x .a0 .now) (x .a1 .now) (x .a2 .now))
+    (outputLayout (x .size) (length (x .b0 .now)) (length (x .b1 .now)) (length (x .b2 .now)))
+    (l .b0) (l .b1) (l .b2) (l .j) (l .done) (c .before .row-start .result) (c .row-start2 .result)
 turn c =
     record {
       input-fits = c .before .before .before .before .before .before .before .before .before .before .pre .1 .0;
@@ -67,7 +61,9 @@ loop-less : tie.Need-loop-less Inv-loop μ-loop
 loop-less c = omega (arith, turn (begun c) .row-inside)
 
 loop-again : tie.Need-loop-again Inv-loop μ-loop
-loop-again c = painting-more (turn (begun c)) (c .before .before .before .before .before .before .before .before .before .before .before .before .before .before .before .before .zero-gap .ensures) (c .before .before .before .before .before .before .paint-row .ensures)
+loop-again c =
+    painting-more (turn (begun c)) (c .before .before .before .before .before .before .before .before .before .before .before .before .before .before .before .before .zero-gap .ensures)
+    (c .before .before .before .before .before .before .paint-row .ensures)
 
 zero-rest-requires : tie.Need-zero-rest-requires Inv-loop μ-loop
 zero-rest-requires c κs = let k = rest-long (c .before .before .before .before .loop .inv) in omega arith
