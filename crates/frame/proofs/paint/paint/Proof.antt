@@ -47,18 +47,9 @@ paint-row-requires c κs =
     let kept = c .before .before .before .before .before .before .before .before .before .zero-gap .kept in
     (s .pre .0, row-lent (turn r) (Takes (s .args .plan)) (s .pre .1 .1 .1) (kept .0) (kept .1 .0) (kept .1 .1 .0))
 
--- the start of a turn, from where its row is painted
+-- the start of a turn, from its end
 abbrev begun : tie.After-slice-known9 Inv-loop μ-loop → tie.After-row-start2 Inv-loop μ-loop
 begun c = c .before .before .before .before .before .before .before .before .before .before .before .before .before .before .before .before .before .before .before .before
-
-add-done : tie.Need-add-done Inv-loop μ-loop
-add-done c = let t = turn (begun c) in omega (arith, t .starts-to .most, t .so-far .fits)
-
-add-j : tie.Need-add-j Inv-loop μ-loop
-add-j c = let t = turn (begun c) in omega (arith, t .row-inside, t .so-far .fits)
-
-loop-less : tie.Need-loop-less Inv-loop μ-loop
-loop-less c = omega (arith, turn (begun c) .row-inside)
 
 loop-again : tie.Need-loop-again Inv-loop μ-loop
 loop-again c =
@@ -77,4 +68,5 @@ pub paint-spec : {M : Type 1} → statement M
 paint-spec =
     tie.close
     (tie.spec Inv-loop μ-loop loop-holds (λ c κs. search needs) (λ c κs. search needs) zero-gap-requires paint-row-requires
-    add-done add-j loop-less loop-again zero-rest-requires (λ c. search needs) (λ c. search needs) (λ c. search needs) returns)
+    (λ c. omega (arith, turn (begun c))) (λ c. omega (arith, turn (begun c))) (λ c. omega (arith, turn (begun c))) loop-again
+    zero-rest-requires (λ c. search needs) (λ c. search needs) (λ c. search needs) returns)
