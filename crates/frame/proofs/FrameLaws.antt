@@ -3,7 +3,6 @@ use mathlib.Core.Path.{_≡_, sym, ap, _∙_, subst}
 use mathlib.Core.List.{List, [], _∷_}
 use Prim.Native.Nat.{ℕ}
 use Rattle.sample.specs.Depth.{InsideOf}
-use Rattle.sample.specs.declared.Pixel.{Pixel}
 use Rattle.refusal.specs.declared.Refusal.{Refusal}
 use Rattle.setting.specs.Call.{inputOf}
 use Rattle.setting.specs.Ready.{Ready}
@@ -35,24 +34,6 @@ module _ (way : Way) (s : Setting) (a : Picture) (b : Layout) where
     unfolding outPlane
     plane-done k = rw e
 
-    pub all-ready : Ready x
-    all-ready = let k = accepted-of (Convert way) s _ _ x e in subst Ready (k .1) (is-ready _ _ _ _ (k .0))
-
-    -- by a plan of the conversion
-    module _ (plan : Plan) (h : Plans (convert way x) (inputOf way) (x .depths) plan) where
-      pub paintable : Roomy plan × (Fits (a .width) (a .height) (layoutOf a) × (Fits (a .width) (a .height) b × EveryPixel (Takes plan) a))
-      paintable =
-          let k = accepted-of (Convert way) s _ _ x e in
-          let f = all-fit (Convert way) s a (b ∷ []) (k .0) in
-          let inside = subst (λ (y : Served). EveryPixel (InsideOf (inputOf way) (y .depths)) a) (k .1) (pixels-inside (Convert way) s a (b ∷ []) (k .0)) in
-          (h .roomy, (f .0, (f .1 .0, λ j i p q. h .takes _ (inside j i p q))))
-
-      made : (k : ℕ) {q : List ℕ} → q ≡ madePlane k (planned plan) a (b .stride) (lengthOf k b) → q ≡ outPlane k way s a b
-      made k m = m ∙ plane-same _ _ _ _ _ _ (λ j i _ _. ap (sampleOf k) (h .is (pixelOf a j i))) ∙ sym (plane-done k)
-
-      pub painted : {q0 q1 q2 : List ℕ} → MadePlanes (planned plan) a b q0 q1 q2 → FrameAfter way s a b Done q0 q1 q2
-      painted m = (sym done, (made 0 (m .0), (made 1 (m .1 .0), made 2 (m .1 .1))))
-
   -- a call that is refused
   module _ (r : Refusal) (e : frameAdmission way s a b ≡ admission.Refused r) where
     pub refused : frameAnswer way s a b ≡ Refused r
@@ -66,3 +47,27 @@ module _ (way : Way) (s : Setting) (a : Picture) (b : Layout) where
     pub zeroed : {q0 q1 q2 : List ℕ} → (q0 ≡ zeros (b .n0)) × ((q1 ≡ zeros (b .n1)) × (q2 ≡ zeros (b .n2)))
         → FrameAfter way s a b (Refused r) q0 q1 q2
     zeroed z = (sym refused, (z .0 ∙ sym (plane-refused 0), (z .1 .0 ∙ sym (plane-refused 1), z .1 .1 ∙ sym (plane-refused 2))))
+
+-- a call was let in, with x served
+pub record LetIn (way : Way) (s : Setting) (a : Picture) (b : Layout) (x : Served) : Type 0 where
+  pub told : frameAdmission way s a b ≡ admission.Served x
+
+module _ {way : Way} {s : Setting} {a : Picture} {b : Layout} {x : Served} (l : LetIn way s a b x) where
+  pub all-ready : Ready x
+  all-ready = let k = accepted-of (Convert way) s _ _ x (l .told) in subst Ready (k .1) (is-ready _ _ _ _ (k .0))
+
+  -- it is painted by a plan of the conversion
+  module _ {plan : Plan} (h : Plans (convert way x) (inputOf way) (x .depths) plan) where
+    pub paintable : Roomy plan × (Fits (a .width) (a .height) (layoutOf a) × (Fits (a .width) (a .height) b × EveryPixel (Takes plan) a))
+    paintable =
+        let k = accepted-of (Convert way) s _ _ x (l .told) in
+        let f = all-fit (Convert way) s a (b ∷ []) (k .0) in
+        let inside = subst (λ (y : Served). EveryPixel (InsideOf (inputOf way) (y .depths)) a) (k .1) (pixels-inside (Convert way) s a (b ∷ []) (k .0)) in
+        (h .roomy, (f .0, (f .1 .0, λ j i p q. h .takes _ (inside j i p q))))
+
+    made : (k : ℕ) {q : List ℕ} → q ≡ madePlane k (planned plan) a (b .stride) (lengthOf k b) → q ≡ outPlane k way s a b
+    made k m =
+        m ∙ plane-same _ _ _ _ _ _ (λ j i _ _. ap (sampleOf k) (h .is (pixelOf a j i))) ∙ sym (plane-done way s a b x (l .told) k)
+
+    pub painted : {q0 q1 q2 : List ℕ} → MadePlanes (planned plan) a b q0 q1 q2 → FrameAfter way s a b Done q0 q1 q2
+    painted m = (sym (done way s a b x (l .told)), (made 0 (m .0), (made 1 (m .1 .0), made 2 (m .1 .1))))

@@ -1,7 +1,6 @@
 // Whole frames: the refusals first, and then either every row or zeros everywhere.
 mod paint;
 
-ghost use mathlib.Core.Path.{_≡_};
 ghost use lib.ListN.{length};
 ghost use Rattle.frame.specs.Frame.{inputPicture, outputLayout, FrameAfter};
 use planes::size::Layout;

@@ -1,5 +1,4 @@
 // What an accepted conversion writes: every row into its own part of each plane, and zeros into the parts that the rows leave.
-ghost use mathlib.Core.Path.{_≡_};
 ghost use Prim.Native.Nat.{_+_};
 ghost use lib.ListN.{length};
 ghost use Rattle.planes.specs.Picture.{layoutOf, EveryPixel};

@@ -1,40 +1,33 @@
 -- `frame::convert_frame` meets its contract: what is known of a call that is let in is what the painting asks, and a refusal zeroes.
-use mathlib.Core.Path.{_≡_, sym, _∙_}
+use mathlib.Core.Path.{sym, _∙_}
 use borrow.Author.Needs.{needs}
 use lib.ListN.{length}
-use Rattle.setting.specs.declared.admission.Admission.the-variants as admission
-use Rattle.planes.specs.Picture.{Picture}
-use Rattle.planes.specs.declared.size.Layout.{Layout}
-use Rattle.frame.specs.Frame.{inputPicture, outputLayout, frameAdmission}
-use Rattle.frame.proofs.FrameLaws.{all-ready, paintable, painted, zeroed}
+use Rattle.frame.specs.Frame.{inputPicture, outputLayout}
+use Rattle.frame.proofs.FrameLaws.{LetIn, all-ready, paintable, painted, zeroed}
 use Rattle.frame.proofs.convert_frame.Statement.{statement}
 use Rattle.frame.proofs.convert_frame.Tie as tie
 
--- the picture that is read, and the layout of the planes that are written
-abbrev input : tie.Start → Picture
-input c = inputPicture (c .args .size) (c .args .a0 .now) (c .args .a1 .now) (c .args .a2 .now)
-
-abbrev output : tie.Start → Layout
-output c = outputLayout (c .args .size) (length (c .args .b0 .now)) (length (c .args .b1 .now)) (length (c .args .b2 .now))
-
--- the call was let in
 let-in : (c : tie.After-served)
-    → let s = c .before .before .before .before .before .before .before .before .before in frameAdmission (s .args .way) (s .args .s) (input s) (output s) ≡ admission.Served (c .served .given .0 .0)
-let-in c = sym (c .before .before .admit-picture .ensures) ∙ c .served .given .1
+    → let x = c .before .before .before .before .before .before .before .before .before .args in
+    LetIn (x .way) (x .s) (inputPicture (x .size) (x .a0 .now) (x .a1 .now) (x .a2 .now))
+    (outputLayout (x .size) (length (x .b0 .now)) (length (x .b1 .now)) (length (x .b2 .now))) (c .served .given .0 .0)
+let-in c = record { told = sym (c .before .before .admit-picture .ensures) ∙ c .served .given .1 }
 
 plan-of-requires : tie.Need-plan-of-requires
-plan-of-requires c κs = all-ready _ _ (input (c .before .before .before .before .before .before .before .before .before .before)) (output (c .before .before .before .before .before .before .before .before .before .before)) _ (let-in (c .before))
+plan-of-requires c κs = all-ready (let-in (c .before))
 
 paint-requires : tie.Need-paint-requires
-paint-requires c κs = let s = c .before .before .before .before .before .before .before .before .before .before .before .before .before .before in paintable _ _ (input s) (output s) _ (let-in (c .before .before .before .before .before)) _ (c .before .before .before .plan-of .ensures)
+paint-requires c κs = let p = c .before .before .before in paintable (let-in (p .before .before)) (p .plan-of .ensures)
 
 returns : tie.Need-returns
-returns c = let s = c .before .before .before .before .before .before .before .before .before .before .before .before .before .before .before .before .before .before .before .before .before in painted _ _ (input s) (output s) _ (let-in (c .before .before .before .before .before .before .before .before .before .before .before .before)) _ (c .before .before .before .before .before .before .before .before .before .before .plan-of .ensures) (c .before .before .before .before .before .before .paint .ensures)
+returns c =
+    let p = c .before .before .before .before .before .before .before .before .before .before in
+    painted (let-in (p .before .before)) (p .plan-of .ensures) (c .before .before .before .before .before .before .paint .ensures)
 
 returns-2 : tie.Need-returns-2
 returns-2 c =
-    let s = c .before .before .before .before .before .before .before .before .before .before .before .before .before .before .before .before .before .before .before .before in
-    zeroed _ _ (input s) (output s) _ (sym (c .before .before .before .before .before .before .before .before .before .before .before .before .before .admit-picture .ensures) ∙ c .before .before .before .before .before .before .before .before .before .before .before .refusal .given .1) (c .before .before .before .before .before .before .zero-three .ensures)
+    let r = c .before .before .before .before .before .before .before .before .before .before .before in
+    zeroed _ _ _ _ _ (sym (r .before .before .admit-picture .ensures) ∙ r .refusal .given .1) (c .before .before .before .before .before .before .zero-three .ensures)
 
 pub convert-frame-spec : {M : Type 1} → statement M
 convert-frame-spec =

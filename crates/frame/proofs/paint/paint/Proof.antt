@@ -1,15 +1,13 @@
 -- `frame::paint::paint` meets its contract: with each turn the planes are painted one row further, and in the end the rest is zeros.
-use mathlib.Core.Path.{refl}
 use Prim.Native.Nat.{_-_}
 use native.Mathlib.Omega.{arith}
 use borrow.Author.Needs.{needs}
 use lib.ListN.{length}
-use Rattle.planes.specs.Picture.{Picture, picture}
+use Rattle.planes.specs.Picture.{picture}
 use Rattle.planes.specs.Sizes.{layout}
-use Rattle.planes.specs.declared.size.Layout.{Layout}
 use Rattle.plan.specs.Plan.{planned, Takes}
 use Rattle.frame.specs.Frame.{inputPicture, outputLayout}
-use Rattle.frame.proofs.PaintLaws.{part-every, Painting, painting-none, Turn, input-long, gap-long, row-long, painting-more, rest-long, painting-end}
+use Rattle.frame.proofs.PaintLaws.{Painting, painting-none, Turn, output-long, row-lent, painting-more, rest-long, painting-end}
 use Rattle.frame.proofs.paint.paint.Statement.{statement}
 use Rattle.frame.proofs.paint.paint.Tie as tie
 
@@ -20,18 +18,13 @@ Inv-loop plan a0 a1 a2 b0₀ b1₀ b2₀ width height input-stride output-stride
 abbrev μ-loop : tie.MeasureT-loop
 μ-loop plan a0 a1 a2 b0₀ b1₀ b2₀ width height input-stride output-stride done₀ j₀ b0 b1 b2 done j = height - j
 
--- the picture that is read, and the layout of the planes that are written
-abbrev input : tie.Start Inv-loop μ-loop → Picture
-input c = inputPicture (c .args .size) (c .args .a0 .now) (c .args .a1 .now) (c .args .a2 .now)
-
-abbrev output : tie.Start Inv-loop μ-loop → Layout
-output c = outputLayout (c .args .size) (length (c .args .b0 .now)) (length (c .args .b1 .now)) (length (c .args .b2 .now))
-
 -- a turn, once both starts of its row are known
 turn : (c : tie.After-row-start2 Inv-loop μ-loop)
-    → let s = c .before .before .before .before .before .before .before .before .before .before in
+    → let x = c .before .before .before .before .before .before .before .before .before .before .args in
     let l = c .before .before .before .loop in
-    Turn (planned (s .args .plan)) (input s) (output s) (l .b0) (l .b1) (l .b2) (l .j) (l .done) (c .before .row-start .result) (c .row-start2 .result)
+    Turn (planned (x .plan)) (inputPicture (x .size) (x .a0 .now) (x .a1 .now) (x .a2 .now))
+    (outputLayout (x .size) (length (x .b0 .now)) (length (x .b1 .now)) (length (x .b2 .now)))
+    (l .b0) (l .b1) (l .b2) (l .j) (l .done) (c .before .row-start .result) (c .row-start2 .result)
 turn c =
     record {
       input-fits = c .before .before .before .before .before .before .before .before .before .before .pre .1 .0;
@@ -42,34 +35,25 @@ turn c =
     }
 
 loop-holds : tie.Need-loop-holds Inv-loop μ-loop
-loop-holds c = painting-none _ _ _ (c .before .before .before .before .before .before .pre .1 .1 .0) refl refl refl
+loop-holds c = painting-none (c .before .before .before .before .before .before .pre .1 .1 .0)
 
 zero-gap-requires : tie.Need-zero-gap-requires Inv-loop μ-loop
-zero-gap-requires c κs = let k = gap-long (turn (c .before .before .before)) in omega arith
+zero-gap-requires c κs = let k = output-long (turn (c .before .before .before)) in omega arith
 
 paint-row-requires : tie.Need-paint-row-requires Inv-loop μ-loop
 paint-row-requires c κs =
-    let t = turn (c .before .before .before .before .before .before .before .before .before .before .before .before .before) in
-    let s = c .before .before .before .before .before .before .before .before .before .before .before .before .before .before .before .before .before .before .before .before .before .before .before in
+    let r = c .before .before .before .before .before .before .before .before .before .before .before .before .before in
+    let s = r .before .before .before .before .before .before .before .before .before .before in
     let kept = c .before .before .before .before .before .before .before .before .before .zero-gap .kept in
-    let long = input-long t in
-    let room = row-long t _ _ _ (kept .0) (kept .1 .0) (kept .1 .1 .0) in
-    let taken = part-every (input s) (c .before .before .before .before .before .before .before .before .before .before .before .before .before .before .before .before .loop .j) _ (t .starts-from .is) (Takes (s .args .plan)) (s .pre .1 .1 .1) (t .row-inside) (long .long0) in
-    (s .pre .0, (long, (omega arith, taken)))
+    (s .pre .0, row-lent (turn r) (Takes (s .args .plan)) (s .pre .1 .1 .1) (kept .0) (kept .1 .0) (kept .1 .1 .0))
 
-add-done : tie.Need-add-done Inv-loop μ-loop
-add-done c = let t = turn (c .before .before .before .before .before .before .before .before .before .before .before .before .before .before .before .before .before .before .before .before) in omega (arith, t .starts-to .most, t .so-far .fits)
-
-add-j : tie.Need-add-j Inv-loop μ-loop
-add-j c = let t = turn (c .before .before .before .before .before .before .before .before .before .before .before .before .before .before .before .before .before .before .before .before) in omega (arith, t .row-inside, t .so-far .fits)
-
-loop-less : tie.Need-loop-less Inv-loop μ-loop
-loop-less c = let t = turn (c .before .before .before .before .before .before .before .before .before .before .before .before .before .before .before .before .before .before .before .before) in omega (arith, t .row-inside)
+-- the start of a turn, from its end
+abbrev begun : tie.After-slice-known9 Inv-loop μ-loop → tie.After-row-start2 Inv-loop μ-loop
+begun c = c .before .before .before .before .before .before .before .before .before .before .before .before .before .before .before .before .before .before .before .before
 
 loop-again : tie.Need-loop-again Inv-loop μ-loop
 loop-again c =
-    painting-more (turn (c .before .before .before .before .before .before .before .before .before .before .before .before .before .before .before .before .before .before .before .before))
-    (c .before .before .before .before .before .before .before .before .before .before .before .before .before .before .before .before .zero-gap .ensures)
+    painting-more (turn (begun c)) (c .before .before .before .before .before .before .before .before .before .before .before .before .before .before .before .before .zero-gap .ensures)
     (c .before .before .before .before .before .before .paint-row .ensures)
 
 zero-rest-requires : tie.Need-zero-rest-requires Inv-loop μ-loop
@@ -77,12 +61,12 @@ zero-rest-requires c κs = let k = rest-long (c .before .before .before .before 
 
 returns : tie.Need-returns Inv-loop μ-loop
 returns c =
-    painting-end (c .before .before .before .before .before .before .before .before .before .before .before .loop .inv)
-    (c .before .before .before .before .before .before .before .before .before .before .loop-test .left)
-    (c .before .before .before .before .before .before .zero-rest .ensures)
+    let l = c .before .before .before .before .before .before .before .before .before .before in
+    painting-end (l .before .loop .inv) (l .loop-test .left) (c .before .before .before .before .before .before .zero-rest .ensures)
 
 pub paint-spec : {M : Type 1} → statement M
 paint-spec =
     tie.close
     (tie.spec Inv-loop μ-loop loop-holds (λ c κs. search needs) (λ c κs. search needs) zero-gap-requires paint-row-requires
-    add-done add-j loop-less loop-again zero-rest-requires (λ c. search needs) (λ c. search needs) (λ c. search needs) returns)
+    (λ c. omega (arith, turn (begun c))) (λ c. omega (arith, turn (begun c))) (λ c. omega (arith, turn (begun c))) loop-again
+    zero-rest-requires (λ c. search needs) (λ c. search needs) (λ c. search needs) returns)
