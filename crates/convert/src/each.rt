@@ -6,7 +6,7 @@ ghost use Rattle.sample.specs.Depth.{InsideRGB};
 ghost use Rattle.ycgco.specs.YCgCo.{lossyForward, lossyReverse, losslessForward, losslessReverse, LossyDepths, LosslessDepths};
 ghost use Rattle.levels.specs.Lines.{lineSample, linesPixel};
 ghost use Rattle.levels.specs.Room.{Ready, AllReady};
-ghost use Rattle.levels.specs.Conversion.{SamplesServed};
+ghost use Rattle.levels.specs.Conversion.{SamplesFit};
 ghost use Rattle.convert.specs.Row.{pixelIn, rowBy, ConvertedRows, EveryOf, OneWidth};
 use levels::lines::Lines;
 use levels::lines::ReadyLine;
@@ -78,7 +78,7 @@ fn line_plane(line: ReadyLine, a0: &[u16], a1: &[u16], a2: &[u16], b: &mut [u16]
     requires { ⌜ length (now a1) ≡ length (now a0) ⌝ }
     requires { ⌜ length (now a2) ≡ length (now a0) ⌝ }
     requires { ⌜ length (now b) ≡ length (now a0) ⌝ }
-    requires { ⌜ EveryOf SamplesServed (now a0) (now a1) (now a2) ⌝ }
+    requires { ⌜ EveryOf SamplesFit (now a0) (now a1) (now a2) ⌝ }
     ensures { λ _. ⌜ now (b .exit) ≡ rowBy (lineSample (line .line)) (now (a0 .entry)) (now (a1 .entry)) (now (a2 .entry)) ⌝ }
 {
     for i in 0..a0.len() {
@@ -99,7 +99,7 @@ pub fn by_lines(
 )
     requires { ⌜ AllReady lines ⌝ }
     requires { ⌜ OneWidth (now a0) (now a1) (now a2) (now b0) (now b1) (now b2) ⌝ }
-    requires { ⌜ EveryOf SamplesServed (now a0) (now a1) (now a2) ⌝ }
+    requires { ⌜ EveryOf SamplesFit (now a0) (now a1) (now a2) ⌝ }
     ensures { λ _. ⌜ ConvertedRows (linesPixel lines) (now (a0 .entry)) (now (a1 .entry)) (now (a2 .entry)) (now (b0 .exit)) (now (b1 .exit)) (now (b2 .exit)) ⌝ }
 {
     line_plane(lines.first, a0, a1, a2, b0);

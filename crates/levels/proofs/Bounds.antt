@@ -10,10 +10,10 @@ use Rattle.sample.specs.declared.ChromaDepth.{ChromaDepth}
 use Rattle.sample.specs.declared.Pixel.{Pixel}
 use Rattle.sample.proofs.DepthLaws.{Powers, powers}
 use Rattle.scale.specs.Scale.{lightScale, chromaScale}
-use Rattle.levels.specs.Conversion.{Shares, EquationServed, MatrixServed, LevelDepth, mostSample, SamplesServed}
+use Rattle.levels.specs.Conversion.{Shares, EquationFits, MatrixFits, LevelDepth, mostSample, SamplesFit}
 use Rattle.levels.specs.Equations.{allParts, weights, equationY, equationPB, equationPR, equationR, equationG, equationB, lumaMatrix}
 use Rattle.levels.specs.Lines.{writerOf, readersOfRgb, readersOfYcc, spread, lineOf}
-use Rattle.levels.specs.Room.{ScaleServed, SpreadServed, LineServed, Room}
+use Rattle.levels.specs.Room.{ScaleFits, SpreadFits, LineFits, Room}
 use Rattle.scale.specs.declared.Scale.{Scale}
 use Rattle.levels.specs.declared.equations.Weights.{Weights}
 use Rattle.levels.specs.declared.equations.Equation.{Equation}
@@ -25,38 +25,38 @@ depth-powers : {d : ℕ} → LevelDepth d → Powers d mostLevelDepth
 depth-powers {d} h = powers d mostLevelDepth (h .least) (h .most)
 
 -- Samples within such depths.
-sample-served : {d v : ℕ} → LevelDepth d → v < 2 ^ d → v ≤ mostSample
-sample-served h l = let p = depth-powers h in omega arith
+sample-fits : {d v : ℕ} → LevelDepth d → v < 2 ^ d → v ≤ mostSample
+sample-fits h l = let p = depth-powers h in omega arith
 
-pub samples-served : {a b c : ℕ} {p : Pixel} → LevelDepth a → LevelDepth b → LevelDepth c → Inside a b c p → SamplesServed p
-samples-served a b c h = record { p0-in = sample-served a (h .in0); p1-in = sample-served b (h .in1); p2-in = sample-served c (h .in2) }
+pub samples-fit : {a b c : ℕ} {p : Pixel} → LevelDepth a → LevelDepth b → LevelDepth c → Inside a b c p → SamplesFit p
+samples-fit a b c h = record { p0-in = sample-fits a (h .in0); p1-in = sample-fits b (h .in1); p2-in = sample-fits c (h .in2) }
 
 -- Scales and writers of the depths served.
-pub record WriterServed (most : ℕ) (t : Writer) : Type 0 where
+pub record WriterFits (most : ℕ) (t : Writer) : Type 0 where
   pub times-in : t .times ≤ mostSample
   pub plus-in : t .plus ≤ most
   pub mid-in : t .mid ≤ t .top
   pub top-in : t .top ≤ mostSample
 
 module _ (d : ℕ) (h : LevelDepth d) where
-  pub light-scale-served : (f : Bool) → ScaleServed (lightScale f d)
-  light-scale-served true = let p = depth-powers h in omega arith
-  light-scale-served false = let p = depth-powers h in omega arith
+  pub light-scale-fits : (f : Bool) → ScaleFits (lightScale f d)
+  light-scale-fits true = let p = depth-powers h in omega arith
+  light-scale-fits false = let p = depth-powers h in omega arith
 
-  pub light-writer-served : (f : Bool) → WriterServed 256 (writerOf f (lightScale f d) d)
-  light-writer-served true = let p = depth-powers h in omega arith
-  light-writer-served false = let p = depth-powers h in omega arith
+  pub light-writer-fits : (f : Bool) → WriterFits 256 (writerOf f (lightScale f d) d)
+  light-writer-fits true = let p = depth-powers h in omega arith
+  light-writer-fits false = let p = depth-powers h in omega arith
 
 module _ (d : ChromaDepth) (h : LevelDepth (d .0)) where
-  pub chroma-scale-served : (f : Bool) → ScaleServed (chromaScale f d)
-  chroma-scale-served true = let p = depth-powers h in omega arith
-  chroma-scale-served false = let p = depth-powers h in omega arith
+  pub chroma-scale-fits : (f : Bool) → ScaleFits (chromaScale f d)
+  chroma-scale-fits true = let p = depth-powers h in omega arith
+  chroma-scale-fits false = let p = depth-powers h in omega arith
 
-  pub chroma-writer-served : (f : Bool) → WriterServed 2048 (writerOf f (chromaScale f d) (d .0))
-  chroma-writer-served true = let p = depth-powers h in omega arith
-  chroma-writer-served false = let p = depth-powers h in omega arith
+  pub chroma-writer-fits : (f : Bool) → WriterFits 2048 (writerOf f (chromaScale f d) (d .0))
+  chroma-writer-fits true = let p = depth-powers h in omega arith
+  chroma-writer-fits false = let p = depth-powers h in omega arith
 
-pub wider : {t : Writer} → WriterServed 256 t → WriterServed 2048 t
+pub wider : {t : Writer} → WriterFits 256 t → WriterFits 2048 t
 wider h = omega arith
 
 -- Weights in ten-thousandths.
@@ -74,40 +74,40 @@ green-bound : (n r g b : ℕ) → r + g + b ≡ n → 4 * (n * g + 2 * b * (r + 
 green-bound n r g b e = let p = twice-product g (r + b) in let q = twice-product r b in rw (← e) (omega arith)
 
 module _ (k : Weights) (h : Shares k) where
-  pub y-served : EquationServed (equationY k)
-  y-served = omega arith
+  pub y-fits : EquationFits (equationY k)
+  y-fits = omega arith
 
-  pub pb-served : EquationServed (equationPB k)
-  pb-served = omega arith
+  pub pb-fits : EquationFits (equationPB k)
+  pb-fits = omega arith
 
-  pub pr-served : EquationServed (equationPR k)
-  pr-served = omega arith
+  pub pr-fits : EquationFits (equationPR k)
+  pr-fits = omega arith
 
-  pub r-served : EquationServed (equationR k)
-  r-served = omega arith
+  pub r-fits : EquationFits (equationR k)
+  r-fits = omega arith
 
-  pub b-served : EquationServed (equationB k)
-  b-served = omega arith
+  pub b-fits : EquationFits (equationB k)
+  b-fits = omega arith
 
-  pub g-served : EquationServed (equationG k)
-  g-served =
+  pub g-fits : EquationFits (equationG k)
+  g-fits =
       let e = ap (λ n. n * k .kg) (h .all-is) in
       let f = ap (λ n. n * n) (h .all-is) in
       let b = green-bound (k .all) (k .kr) (k .kg) (k .kb) (h .sum) in
       record { some = omega arith; over-in = omega arith; total-in = omega arith }
 
-  pub luma-served : MatrixServed (lumaMatrix k)
+  pub luma-fits : MatrixFits (lumaMatrix k)
   unfolding lumaMatrix
-  luma-served =
+  luma-fits =
       record {
-        forward = record { first = y-served; second = pb-served; third = pr-served };
-        reverse = record { first = r-served; second = g-served; third = b-served };
+        forward = record { first = y-fits; second = pb-fits; third = pr-fits };
+        reverse = record { first = r-fits; second = g-fits; third = b-fits };
       }
 
 -- A line of them.
-module _ (w : Equation) (r : EquationServed w) (to : Writer) where
-  pub forward-served : (s : Scale) → ScaleServed s → WriterServed 2048 to → LineServed w (readersOfRgb s) to
-  forward-served s h t =
+module _ (w : Equation) (r : EquationFits w) (to : Writer) where
+  pub forward-fits : (s : Scale) → ScaleFits s → WriterFits 2048 to → LineFits w (readersOfRgb s) to
+  forward-fits s h t =
       let p = mul-le-mul (r .over-in) (h .times-in) in
       let q = mul-le-mul (t .plus-in) p in
       record {
@@ -120,8 +120,8 @@ module _ (w : Equation) (r : EquationServed w) (to : Writer) where
         added-in = omega arith;
       }
 
-  pub reverse-served : (y c : Scale) → ScaleServed y → ScaleServed c → WriterServed 256 to → LineServed w (readersOfYcc y c) to
-  reverse-served y c h g t =
+  pub reverse-fits : (y c : Scale) → ScaleFits y → ScaleFits c → WriterFits 256 to → LineFits w (readersOfYcc y c) to
+  reverse-fits y c h g t =
       let p = mul-le-mul (r .over-in) (mul-le-mul (g .times-in) (h .times-in)) in
       let q = mul-le-mul (t .plus-in) p in
       record {
@@ -152,7 +152,7 @@ pub record Spread (w : Equation) (from : Readers) (t : ℕ) : Type 0 where
   pub down1 : Carried t (from .rest .mul) (w .down1)
   pub down2 : Carried t (from .rest .mul) (w .down2)
 
-pub spread-bounds : {w : Equation} {from : Readers} {t : ℕ} → SpreadServed w from t → Spread w from t
+pub spread-bounds : {w : Equation} {from : Readers} {t : ℕ} → SpreadFits w from t → Spread w from t
 spread-bounds h =
     record {
       up0 = carried _ _ _ (h .times-in) (h .first-in);
@@ -185,14 +185,14 @@ terms w hx hy hz =
 
 -- What a line is made of, and that it has room.
 pub record LineBounds (w : Equation) (from : Readers) (to : Writer) : Type 0 where
-  pub served : LineServed w from to
+  pub served : LineFits w from to
   pub weights : Spread w from (to .times)
   pub taken : Terms (spread w from (to .times)) (from .first .plus) (from .rest .plus) (from .rest .plus)
 
-pub line-bounds : {w : Equation} {from : Readers} {to : Writer} → LineServed w from to → LineBounds w from to
+pub line-bounds : {w : Equation} {from : Readers} {to : Writer} → LineFits w from to → LineBounds w from to
 line-bounds h = record { served = h; weights = spread-bounds (h .spreads); taken = terms _ (h .first-plus) (h .rest-plus) (h .rest-plus) }
 
-pub room : {w : Equation} {from : Readers} {to : Writer} → LineServed w from to → Room (lineOf w from to)
+pub room : {w : Equation} {from : Readers} {to : Writer} → LineFits w from to → Room (lineOf w from to)
 room h =
     let b = line-bounds h in
     record {

@@ -2,6 +2,6 @@
 pub mod Formulas
 pub mod Writing
 pub mod Bounds
-pub mod Served
+pub mod Fitting
 pub mod Pixels
 pub mod Solves

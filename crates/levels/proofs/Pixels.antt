@@ -7,7 +7,7 @@ use Rattle.fraction.proofs.Value.{Value}
 use Rattle.sample.specs.declared.Pixel.{Pixel}
 use Rattle.scale.specs.Scale.{level}
 use Rattle.levels.specs.Equations.{levelBy, lumaMatrix}
-use Rattle.levels.specs.Conversion.{Formula, Shares, EquationsServed, MatrixServed, LevelsServed, rgbOf, lumaOf, chromaOf, toYcc, toRgb, levelsForward, levelsReverse, lumaForward, lumaReverse}
+use Rattle.levels.specs.Conversion.{Formula, Shares, EquationsFit, MatrixFits, LevelDepths, rgbOf, lumaOf, chromaOf, toYcc, toRgb, levelsForward, levelsReverse, lumaForward, lumaReverse}
 use Rattle.levels.specs.Lines.{reader, read, readersOfRgb, readersOfYcc, rgbWriter, lumaWriter, chromaWriter, lineOf, lineSample, linesPixel}
 use Rattle.levels.specs.Room.{Prepared}
 use Rattle.levels.specs.declared.LevelSetting.{LevelSetting}
@@ -20,7 +20,7 @@ use Rattle.levels.specs.declared.lines.Writer.{Writer}
 use Rattle.levels.proofs.Bounds as bounds
 use Rattle.levels.proofs.Formulas.{Gives, by-equation, gives-y, gives-pb, gives-pr, gives-r, gives-g, gives-b}
 use Rattle.levels.proofs.Writing.{rgb-value, luma-value, chroma-value, light-sample, chroma-sample}
-use Rattle.levels.proofs.Served.{rgb-served, luma-served, chroma-served}
+use Rattle.levels.proofs.Fitting.{rgb-fits, luma-fits, chroma-fits}
 
 -- three formulas with the values of three equations
 pub record AllGive (f g k : Formula) (e : Equations) : Type 0 where
@@ -28,7 +28,7 @@ pub record AllGive (f g k : Formula) (e : Equations) : Type 0 where
   pub second : Gives g (e .second)
   pub third : Gives k (e .third)
 
-pub by-equations : (e : Equations) → EquationsServed e → AllGive (levelBy (e .first)) (levelBy (e .second)) (levelBy (e .third)) e
+pub by-equations : (e : Equations) → EquationsFit e → AllGive (levelBy (e .first)) (levelBy (e .second)) (levelBy (e .third)) e
 by-equations e h =
     record {
       first = by-equation (e .first) (h .first .some);
@@ -49,22 +49,22 @@ prepared-lined : {e : Equations} {from : Readers} {t u : Writer} {l : Lines} →
 prepared-lined q p =
     λ i. record { p0 = lineSample (q .first .is i) p; p1 = lineSample (q .second .is i) p; p2 = lineSample (q .third .is i) p }
 
-module _ (s : LevelSetting) (h : LevelsServed s) (p : Pixel) where
+module _ (s : LevelSetting) (h : LevelDepths s) (p : Pixel) where
   -- what the samples of p stand for, on either side
   of-rgb : (v : ℕ) → Value (level (rgbOf s) v) (read (reader 1 (rgbOf s .plus)) v) (rgbOf s .times)
-  of-rgb v = rgb-value (rgbOf s) v (rgb-served s h .some)
+  of-rgb v = rgb-value (rgbOf s) v (rgb-fits s h .some)
 
   of-luma : (v : ℕ) → Value (level (lumaOf s) v) (read (reader (chromaOf s .times) (lumaOf s .plus)) v) (chromaOf s .times * lumaOf s .times)
-  of-luma v = luma-value (lumaOf s) (chromaOf s) v (luma-served s h .some)
+  of-luma v = luma-value (lumaOf s) (chromaOf s) v (luma-fits s h .some)
 
   of-chroma : (v : ℕ) → Value (level (chromaOf s) v) (read (reader (lumaOf s .times) (chromaOf s .plus)) v) (chromaOf s .times * lumaOf s .times)
-  of-chroma v = chroma-value (lumaOf s) (chromaOf s) v (chroma-served s h .some)
+  of-chroma v = chroma-value (lumaOf s) (chromaOf s) v (chroma-fits s h .some)
 
-  module _ (e : Equations) (k : EquationsServed e) {f g j : Formula} (a : AllGive f g j e) where
+  module _ (e : Equations) (k : EquationsFit e) {f g j : Formula} (a : AllGive f g j e) where
     pub forward-by : lined e (readersOfRgb (rgbOf s)) (lumaWriter s) (chromaWriter s) p ≡ toYcc s f g j p
     forward-by =
         let from = readersOfRgb (rgbOf s) in
-        let some = rgb-served s h .some in
+        let some = rgb-fits s h .some in
         let r = of-rgb (p .p0) in
         let t = of-rgb (p .p1) in
         let b = of-rgb (p .p2) in
@@ -78,7 +78,7 @@ module _ (s : LevelSetting) (h : LevelsServed s) (p : Pixel) where
     pub reverse-by : lined e (readersOfYcc (lumaOf s) (chromaOf s)) (rgbWriter s) (rgbWriter s) p ≡ toRgb s f g j p
     reverse-by =
         let from = readersOfYcc (lumaOf s) (chromaOf s) in
-        let some = mul-pos (chroma-served s h .some) (luma-served s h .some) in
+        let some = mul-pos (chroma-fits s h .some) (luma-fits s h .some) in
         let y = of-luma (p .p0) in
         let cb = of-chroma (p .p1) in
         let cr = of-chroma (p .p2) in
@@ -90,7 +90,7 @@ module _ (s : LevelSetting) (h : LevelsServed s) (p : Pixel) where
         }
 
   -- the lines of a matrix
-  module _ (m : LevelMatrix) (k : MatrixServed m) (l : Lines) where
+  module _ (m : LevelMatrix) (k : MatrixFits m) (l : Lines) where
     pub forward-law : Prepared (m .forward) (readersOfRgb (rgbOf s)) (lumaWriter s) (chromaWriter s) l → linesPixel l p ≡ levelsForward m s p
     unfolding levelsForward
     forward-law q = prepared-lined q p ∙ forward-by (m .forward) (k .forward) (by-equations (m .forward) (k .forward))
@@ -105,7 +105,7 @@ module _ (s : LevelSetting) (h : LevelsServed s) (p : Pixel) where
     unfolding levelsForward lumaForward lumaMatrix
     luma-forward =
         let e = lumaMatrix k .forward in
-        let fits = bounds.luma-served k w .forward in
+        let fits = bounds.luma-fits k w .forward in
         sym (forward-by e fits (by-equations e fits))
         ∙ forward-by e fits (record { first = gives-y k w; second = gives-pb k w; third = gives-pr k w })
 
@@ -113,6 +113,6 @@ module _ (s : LevelSetting) (h : LevelsServed s) (p : Pixel) where
     unfolding levelsReverse lumaReverse lumaMatrix
     luma-reverse =
         let e = lumaMatrix k .reverse in
-        let fits = bounds.luma-served k w .reverse in
+        let fits = bounds.luma-fits k w .reverse in
         sym (reverse-by e fits (by-equations e fits))
         ∙ reverse-by e fits (record { first = gives-r k w; second = gives-g k w; third = gives-b k w })

@@ -84,19 +84,19 @@ abbrev pub mostTotal : ℕ
 mostTotal = 125000000
 
 -- an equation that the code has room for, and a matrix of such
-pub record EquationServed (w : Equation) : Type 0 where
+pub record EquationFits (w : Equation) : Type 0 where
   pub some : 0 < w .over
   pub over-in : w .over ≤ allParts * allParts
   pub total-in : total w ≤ mostTotal
 
-pub record EquationsServed (e : Equations) : Type 0 where
-  pub first : EquationServed (e .first)
-  pub second : EquationServed (e .second)
-  pub third : EquationServed (e .third)
+pub record EquationsFit (e : Equations) : Type 0 where
+  pub first : EquationFits (e .first)
+  pub second : EquationFits (e .second)
+  pub third : EquationFits (e .third)
 
-pub record MatrixServed (m : LevelMatrix) : Type 0 where
-  pub forward : EquationsServed (m .forward)
-  pub reverse : EquationsServed (m .reverse)
+pub record MatrixFits (m : LevelMatrix) : Type 0 where
+  pub forward : EquationsFit (m .forward)
+  pub reverse : EquationsFit (m .reverse)
 
 -- a depth that a level matrix serves
 pub record LevelDepth (d : ℕ) : Type 0 where
@@ -104,7 +104,7 @@ pub record LevelDepth (d : ℕ) : Type 0 where
   pub most : d ≤ mostLevelDepth
 
 -- depths that the code serves
-pub record LevelsServed (s : LevelSetting) : Type 0 where
+pub record LevelDepths (s : LevelSetting) : Type 0 where
   pub rgb : LevelDepth (s .depths .rgb .0)
   pub luma : LevelDepth (s .depths .luma .0)
   pub chroma : LevelDepth (s .depths .chroma .0)
@@ -113,7 +113,7 @@ pub record LevelsServed (s : LevelSetting) : Type 0 where
 abbrev pub mostSample : ℕ
 mostSample = 2 ^ mostLevelDepth - 1
 
-pub record SamplesServed (p : Pixel) : Type 0 where
+pub record SamplesFit (p : Pixel) : Type 0 where
   pub p0-in : p .p0 ≤ mostSample
   pub p1-in : p .p1 ≤ mostSample
   pub p2-in : p .p2 ≤ mostSample

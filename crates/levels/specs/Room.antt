@@ -21,13 +21,13 @@ abbrev pub mostDenominator : ℕ
 mostDenominator = 100000000000000000
 
 -- a scale of a depth that a level matrix serves
-pub record ScaleServed (s : Scale) : Type 0 where
+pub record ScaleFits (s : Scale) : Type 0 where
   pub some : 0 < s .times
   pub times-in : s .times ≤ mostSample
   pub plus-in : s .plus ≤ mostSample
 
 -- an equation and samples that have room when the equation is spread
-pub record SpreadServed (w : Equation) (from : Readers) (times : ℕ) : Type 0 where
+pub record SpreadFits (w : Equation) (from : Readers) (times : ℕ) : Type 0 where
   pub first-in : from .first .mul ≤ mostSample
   pub rest-in : from .rest .mul ≤ mostSample
   pub times-in : times ≤ mostSample
@@ -35,8 +35,8 @@ pub record SpreadServed (w : Equation) (from : Readers) (times : ℕ) : Type 0 w
   pub over-in : w .over * from .common ≤ mostDenominator
 
 -- an equation, samples and a plane that have room as a line
-pub record LineServed (w : Equation) (from : Readers) (to : Writer) : Type 0 where
-  pub spreads : SpreadServed w from (to .times)
+pub record LineFits (w : Equation) (from : Readers) (to : Writer) : Type 0 where
+  pub spreads : SpreadFits w from (to .times)
   pub first-plus : from .first .plus ≤ mostSample
   pub rest-plus : from .rest .plus ≤ mostSample
   pub mid-in : to .mid ≤ to .top

@@ -3,14 +3,14 @@ use crate::lines::Lines;
 use crate::lines::ReadyLine;
 use sample::Pixel;
 ghost use mathlib.Core.Path.{_≡_};
-ghost use Rattle.levels.specs.Conversion.{SamplesServed};
+ghost use Rattle.levels.specs.Conversion.{SamplesFit};
 ghost use Rattle.levels.specs.Lines.{lineSample, linesPixel};
 ghost use Rattle.levels.specs.Room.{Ready, AllReady};
 
 // One sample by its line. All kinds of sample come from here.
 pub fn sample_of(l: ReadyLine, p: Pixel) -> u16
     requires { ⌜ Ready l ⌝ }
-    requires { ⌜ SamplesServed p ⌝ }
+    requires { ⌜ SamplesFit p ⌝ }
     ensures { λ r. ⌜ r ≡ lineSample (l .line) p ⌝ }
 {
     let line = l.line;
@@ -38,7 +38,7 @@ pub fn sample_of(l: ReadyLine, p: Pixel) -> u16
 // The three samples of a pixel.
 pub fn pixel_of(lines: Lines, p: Pixel) -> Pixel
     requires { ⌜ AllReady lines ⌝ }
-    requires { ⌜ SamplesServed p ⌝ }
+    requires { ⌜ SamplesFit p ⌝ }
     ensures { λ r. ⌜ r ≡ linesPixel lines p ⌝ }
 {
     let first = lines.first;

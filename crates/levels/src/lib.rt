@@ -4,7 +4,7 @@ pub mod by_lines;
 pub mod equations;
 pub mod lines;
 
-ghost use Rattle.levels.specs.Conversion.{EquationsServed, LevelsServed};
+ghost use Rattle.levels.specs.Conversion.{EquationsFit, LevelDepths};
 ghost use Rattle.levels.specs.Lines.{readersOfRgb, readersOfYcc, rgbWriter, lumaWriter, chromaWriter};
 ghost use Rattle.levels.specs.Conversion.{rgbOf, lumaOf, chromaOf};
 ghost use Rattle.levels.specs.Room.{Prepared};
@@ -21,8 +21,8 @@ pub struct LevelSetting {
 
 // R, G, B to Y, Cb, Cr, prepared.
 pub fn forward_lines(e: Equations, s: LevelSetting) -> Lines
-    requires { ⌜ EquationsServed e ⌝ }
-    requires { ⌜ LevelsServed s ⌝ }
+    requires { ⌜ EquationsFit e ⌝ }
+    requires { ⌜ LevelDepths s ⌝ }
     ensures { λ r. ⌜ Prepared e (readersOfRgb (rgbOf s)) (lumaWriter s) (chromaWriter s) r ⌝ }
 {
     let depths = s.depths;
@@ -39,8 +39,8 @@ pub fn forward_lines(e: Equations, s: LevelSetting) -> Lines
 
 // Y, Cb, Cr to R, G, B, prepared.
 pub fn reverse_lines(e: Equations, s: LevelSetting) -> Lines
-    requires { ⌜ EquationsServed e ⌝ }
-    requires { ⌜ LevelsServed s ⌝ }
+    requires { ⌜ EquationsFit e ⌝ }
+    requires { ⌜ LevelDepths s ⌝ }
     ensures { λ r. ⌜ Prepared e (readersOfYcc (lumaOf s) (chromaOf s)) (rgbWriter s) (rgbWriter s) r ⌝ }
 {
     let depths = s.depths;

@@ -7,7 +7,7 @@ ghost use mathlib.Core.Path.{_≡_};
 ghost use Rattle.sample.specs.Depth.{Depth};
 ghost use Rattle.sample.specs.Depth.{M};
 ghost use Rattle.levels.specs.Lines.{writerOf, readersOfRgb, readersOfYcc, spread, lineOf};
-ghost use Rattle.levels.specs.Room.{ScaleServed, SpreadServed, LineServed, Lined, Prepared};
+ghost use Rattle.levels.specs.Room.{ScaleFits, SpreadFits, LineFits, Lined, Prepared};
 
 // One prepared sample: the equation's sum over the samples themselves, and up - down, over its denominator. That is rounded, mid is added,
 // and the result is brought into 0..top.
@@ -93,8 +93,8 @@ pub fn readers_of_rgb(s: Scale) -> Readers
 
 // Y has one scale and both chroma samples another: each is brought over the product of the two.
 pub fn readers_of_ycc(luma: Scale, chroma: Scale) -> Readers
-    requires { ⌜ ScaleServed luma ⌝ }
-    requires { ⌜ ScaleServed chroma ⌝ }
+    requires { ⌜ ScaleFits luma ⌝ }
+    requires { ⌜ ScaleFits chroma ⌝ }
     ensures { λ r. ⌜ r ≡ readersOfYcc luma chroma ⌝ }
 {
     let luma_times = luma.times;
@@ -119,7 +119,7 @@ pub fn readers_of_ycc(luma: Scale, chroma: Scale) -> Readers
 
 // An equation over the samples themselves: each weight with what its sample is read by, and with what the result is written by.
 fn spread(w: Equation, from: Readers, times: u64) -> Equation
-    requires { ⌜ SpreadServed w from times ⌝ }
+    requires { ⌜ SpreadFits w from times ⌝ }
     ensures { λ r. ⌜ r ≡ spread w from times ⌝ }
 {
     let first = from.first;
@@ -154,7 +154,7 @@ fn spread(w: Equation, from: Readers, times: u64) -> Equation
 
 // The line of an equation. What the scales take away is taken once for all pixels.
 fn line_of(w: Equation, from: Readers, to: Writer) -> Line
-    requires { ⌜ LineServed w from to ⌝ }
+    requires { ⌜ LineFits w from to ⌝ }
     ensures { λ r. ⌜ r ≡ lineOf w from to ⌝ }
 {
     let first = from.first;
@@ -186,7 +186,7 @@ fn line_of(w: Equation, from: Readers, to: Writer) -> Line
 
 // A line, with what stands for its divisor worked out once for many pixels.
 fn ready_line(w: Equation, from: Readers, to: Writer) -> ReadyLine
-    requires { ⌜ LineServed w from to ⌝ }
+    requires { ⌜ LineFits w from to ⌝ }
     ensures { λ r. ⌜ Lined w from to r ⌝ }
 {
     let line = line_of(w, from, to);
@@ -198,9 +198,9 @@ fn ready_line(w: Equation, from: Readers, to: Writer) -> ReadyLine
 
 // The lines of three equations, the first into one plane and the others into two alike.
 pub fn lines_of(e: Equations, from: Readers, light: Writer, colour: Writer) -> Lines
-    requires { ⌜ LineServed (e .first) from light ⌝ }
-    requires { ⌜ LineServed (e .second) from colour ⌝ }
-    requires { ⌜ LineServed (e .third) from colour ⌝ }
+    requires { ⌜ LineFits (e .first) from light ⌝ }
+    requires { ⌜ LineFits (e .second) from colour ⌝ }
+    requires { ⌜ LineFits (e .third) from colour ⌝ }
     ensures { λ r. ⌜ Prepared e from light colour r ⌝ }
 {
     let first = ready_line(e.first, from, light);

@@ -5,7 +5,7 @@ use Rattle.sample.specs.declared.Depths.{Depths}
 use Rattle.sample.specs.declared.Pixel.{Pixel}
 use Rattle.sample.specs.declared.Side.{Side}
 use Rattle.ycgco.specs.YCgCo.{lossyForward, lossyReverse, losslessForward, losslessReverse, LossyDepths, LosslessDepths}
-use Rattle.levels.specs.Conversion.{SamplesServed}
+use Rattle.levels.specs.Conversion.{SamplesFit}
 use Rattle.levels.specs.Lines.{linesPixel}
 use Rattle.levels.specs.Room.{AllReady}
 use Rattle.setting.specs.declared.Way.the-variants.{Forward, Reverse}
@@ -40,7 +40,7 @@ Takes (LossyForward d) p = Unit
 Takes (LossyReverse d) p = Unit
 Takes (LosslessForward d) p = InsideRGB d p
 Takes (LosslessReverse d) p = Unit
-Takes (Lines l) p = SamplesServed p
+Takes (Lines l) p = SamplesFit p
 
 -- the plan of a conversion f that reads samples of one side within depth
 pub record Plans (f : Pixel → Pixel) (side : Side) (d : Depths) (x : Plan) : Type 0 where

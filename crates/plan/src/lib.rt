@@ -2,7 +2,7 @@
 ghost use Prim.Native.Nat.{_≤_};
 ghost use Rattle.sample.specs.Depth.{ThreeDepths};
 ghost use Rattle.ycgco.specs.YCgCo.{LossyDepths, LosslessDepths};
-ghost use Rattle.levels.specs.Conversion.{MatrixServed, LevelsServed};
+ghost use Rattle.levels.specs.Conversion.{MatrixFits, LevelDepths};
 ghost use Rattle.setting.specs.Call.{inputOf};
 ghost use Rattle.setting.specs.Ready.{Ready};
 ghost use Rattle.plan.specs.Conversion.{changePlaces, lossy, lossless, ycgcoBy, levelsBy, convert};
@@ -71,8 +71,8 @@ fn plan_ycgco(way: Way, d: Depths) -> Plan
 }
 
 fn plan_levels(way: Way, m: LevelMatrix, s: LevelSetting) -> Plan
-    requires { ⌜ MatrixServed m ⌝ }
-    requires { ⌜ LevelsServed s ⌝ }
+    requires { ⌜ MatrixFits m ⌝ }
+    requires { ⌜ LevelDepths s ⌝ }
     ensures { λ r. ⌜ Plans (levelsBy way m s) (inputOf way) (s .depths) r ⌝ }
 {
     match way {

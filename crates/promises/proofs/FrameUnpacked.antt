@@ -32,11 +32,11 @@ use Rattle.corkplover.specs.Meaning.{meaningOfFrame, meaningOfImage}
 use Rattle.corkplover.specs.Packing.{packed, numberIn, secondIn, firstIn, middleIn, packedFrame, packedImage}
 use Rattle.promises.proofs.Fields.{fields}
 use Rattle.promises.proofs.Images.{image-none}
-use Rattle.promises.proofs.Unpacked.{Unpacked, Fits, free-unpacked, sizes-small, call-unpacked}
+use Rattle.promises.proofs.Unpacked.{Unpacked, PlaceFits, free-unpacked, sizes-small, call-unpacked}
 
 -- a place inside a picture of a served size
 picture-fits : (side : Side) (s : Setting) (a : Picture) (others : List Layout) → first (sizeRules (a .width) (a .height) (layoutOf a ∷ others)) ≡ Passed
-    → (place : Place) → beyondDepth side (depths s) a ≡ found.At place → Fits place
+    → (place : Place) → beyondDepth side (depths s) a ≡ found.At place → PlaceFits place
 picture-fits side s a others z place e =
     let sized = sizes.fits _ _ _ z .0 .sized in
     let b = at-in-planes-means a _ place .0 e in

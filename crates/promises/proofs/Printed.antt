@@ -6,7 +6,7 @@ use Prim.Native.Nat.{ℕ, _+_, _<_}
 use Rattle.sample.specs.declared.Pixel.{Pixel}
 use Rattle.refusal.specs.Rules.{first}
 use Rattle.refusal.specs.declared.Check.the-variants.{Passed}
-use Rattle.levels.specs.Conversion.{LevelsServed, lumaForward, lumaReverse}
+use Rattle.levels.specs.Conversion.{LevelDepths, lumaForward, lumaReverse}
 use Rattle.levels.specs.Equations.{allParts, weights, lumaMatrix}
 use Rattle.levels.proofs.Bounds.{shares}
 use Rattle.levels.proofs.Pixels.{luma-forward, luma-reverse}
@@ -40,7 +40,7 @@ module _ (s : Setting) (kr kb : ℕ) (h : kr + kb < allParts) (e : matrixOf (s .
   formulas-are : entry s .formulas ≡ Levels (lumaMatrix (weights kr kb))
   formulas-are = ap (λ m. entryOf m .formulas) e
 
-  depths-served : (w : Way) → first (settingRules (Convert w) s) ≡ Passed → LevelsServed (levelSetting (served s))
+  depths-served : (w : Way) → first (settingRules (Convert w) s) ≡ Passed → LevelDepths (levelSetting (served s))
   depths-served w q = subst (λ f. Agreed f (served s)) formulas-are (ready (Convert w) s q .agreed) .1
 
   pub printed-forward : first (settingRules (Convert Forward) s) ≡ Passed → (p : Pixel)

@@ -49,12 +49,12 @@ pub record Unpacked (x : ℕ) (said : Meaning) : Type 0 where
   pub place-out : (said .number ≡ 0 → ⊥) → (secondIn x ≡ said .place .plane) × ((firstIn x ≡ said .place .row) × (middleIn x ≡ said .place .column))
 
 -- a place that the fields have room for
-pub record Fits (place : Place) : Type 0 where
+pub record PlaceFits (place : Place) : Type 0 where
   pub plane-fits : place .plane < 256
   pub row-fits : place .row < 65536
   pub column-fits : place .column < 65536
 
-refusal-unpacked : (r : Refusal) → r .number < 256 → Fits (r .place) → Unpacked (packedRefusal r) (meaningRefusal r)
+refusal-unpacked : (r : Refusal) → r .number < 256 → PlaceFits (r .place) → Unpacked (packedRefusal r) (meaningRefusal r)
 refusal-unpacked r h k =
     let f = fields (r .number) (r .place .plane) (r .place .row) (r .place .column) 0 h (k .plane-fits) (k .row-fits) (k .column-fits) (omega arith) in
     record { number-out = f .number-out; place-out = λ t. (f .second-out, (f .first-out, f .middle-out)) }
@@ -65,7 +65,7 @@ free-unpacked x said e f = record { number-out = e ∙ sym f; place-out = λ t. 
 -- a refusal that the fields have room for
 pub record Small (r : Refusal) : Type 0 where
   pub number-small : r .number < 256
-  pub place-small : Fits (r .place)
+  pub place-small : PlaceFits (r .place)
 
 nowhere-small : (n : ℕ) → n < 256 → Small (numbered n)
 nowhere-small n h = record { number-small = h; place-small = record { plane-fits = omega arith; row-fits = omega arith; column-fits = omega arith } }
@@ -83,7 +83,7 @@ module _ (pack : Admission → ℕ) (say : Admission → Meaning) (c : Call) (s 
     (free : Unpacked (pack (admission.Served (served s))) (say (admission.Served (served s))))
     (packs : (r : Refusal) → pack (admission.Refused r) ≡ packedRefusal r) (refuses : (r : Refusal) → say (admission.Refused r) ≡ meaningRefusal r)
     (sizes : List Rule) (small : EveryRule Small sizes) (bad : Found)
-    (fit : first sizes ≡ Passed → (place : Place) → bad ≡ found.At place → Fits place)
+    (fit : first sizes ≡ Passed → (place : Place) → bad ≡ found.At place → PlaceFits place)
   where
     abbrev Out : Admission → Type 0
     Out v = Unpacked (pack v) (say v)
@@ -99,7 +99,7 @@ module _ (pack : Admission → ℕ) (say : Admission → Meaning) (c : Call) (s 
 
 -- ---- calls on a pixel or a sample
 
-pixel-fits : (side : Side) (s : Setting) (p : Pixel) (place : Place) → beyondDepth side (depths s) (pixelPicture p) ≡ found.At place → Fits place
+pixel-fits : (side : Side) (s : Setting) (p : Pixel) (place : Place) → beyondDepth side (depths s) (pixelPicture p) ≡ found.At place → PlaceFits place
 pixel-fits side s p place e =
     let b = at-in-planes-means (pixelPicture p) _ place .0 e in
     record { plane-fits = omega (arith, b .plane-inside); row-fits = omega (arith, b .first-there .row-inside); column-fits = omega (arith, b .first-there .column-inside) }
@@ -126,7 +126,7 @@ kind-fits kind.Y = omega arith
 kind-fits kind.Cb = omega arith
 kind-fits kind.Cr = omega arith
 
-sample-fits : (k : SampleKind) (s : Setting) (v : ℕ) (place : Place) → badOne k (depths s) v ≡ found.At place → Fits place
+sample-fits : (k : SampleKind) (s : Setting) (v : ℕ) (place : Place) → badOne k (depths s) v ≡ found.At place → PlaceFits place
 sample-fits k s v place e =
     let b = at-means (v ∷ []) (planeNumber k) 1 1 1 (topOf k (depths s)) place .0 e in
     record {

@@ -15,9 +15,9 @@ use Rattle.sample.proofs.Choices.{both-true}
 use Rattle.refusal.specs.Rules.{first}
 use Rattle.refusal.specs.declared.Check.the-variants.{Passed}
 use Rattle.refusal.proofs.RuleLaws.{passed-over}
-use Rattle.levels.specs.Conversion.{MatrixServed}
+use Rattle.levels.specs.Conversion.{MatrixFits}
 use Rattle.levels.specs.Equations.{allParts, weights}
-use Rattle.levels.proofs.Bounds.{luma-served, shares}
+use Rattle.levels.proofs.Bounds.{luma-fits, shares}
 use Rattle.setting.specs.Matrix.{lumaEntry, matrices, matrixOf}
 use Rattle.setting.specs.Agreement.{depthsServed, bonded, agree, keeps, answers}
 use Rattle.setting.specs.Rules.{entryOf, entry, depths, depthRules, entryRules, settingRules, served}
@@ -43,7 +43,7 @@ Bound Free = ⊥
 abbrev SoundAs : Formulas → Entry → Type 0
 SoundAs ChangePlaces e = (e .bond ≡ Bits 0) × (e .«chroma_bits» ≡ 0)
 SoundAs YCgCo e = Bound (e .bond) × (e .lossless ≡ From 1)
-SoundAs (Levels m) e = MatrixServed m × ((e .deepest ≡ mostLevelDepth) × (e .lossless ≡ Never))
+SoundAs (Levels m) e = MatrixFits m × ((e .deepest ≡ mostLevelDepth) × (e .lossless ≡ Never))
 
 abbrev Sound : Matrix → Type 0
 Sound m = SoundAs (entryOf m .formulas) (entryOf m)
@@ -58,7 +58,7 @@ sound-at (m ∷ ms) zero e = e .0
 sound-at (m ∷ ms) (suc n) e = sound-at ms n (e .1)
 
 luma-sound : (kr kb : ℕ) → kr + kb < allParts → Sound (matrix.Served (lumaEntry kr kb))
-luma-sound kr kb h = (luma-served (weights kr kb) (shares kr kb h), (refl, refl))
+luma-sound kr kb h = (luma-fits (weights kr kb) (shares kr kb h), (refl, refl))
 
 all-sound : Each matrices
 all-sound = search (luma-sound, needs) depth 60

@@ -2,7 +2,7 @@
 use mathlib.Core.Path.{_≡_}
 use Prim.Native.Nat.{_+_, _≤_}
 use Rattle.sample.specs.Depth.{ThreeDepths}
-use Rattle.levels.specs.Conversion.{MatrixServed, LevelsServed}
+use Rattle.levels.specs.Conversion.{MatrixFits, LevelDepths}
 use Rattle.levels.specs.declared.LevelSetting.{LevelSetting}
 use Rattle.setting.specs.declared.admission.Served.{Served}
 use Rattle.setting.specs.declared.matrix.Formulas.{Formulas}
@@ -15,7 +15,7 @@ levelSetting s = record { depths = s .depths; «rgb_full» = s .«rgb_full»; «
 abbrev pub Agreed : Formulas → Served → Type 0
 Agreed ChangePlaces s = (s .depths .rgb .0 ≡ s .depths .luma .0) × (s .depths .luma .0 ≡ s .depths .chroma .0)
 Agreed YCgCo s = (s .depths .rgb .0 ≤ s .depths .luma .0) × (s .depths .luma .0 ≤ s .depths .chroma .0)
-Agreed (Levels m) s = MatrixServed m × LevelsServed (levelSetting s)
+Agreed (Levels m) s = MatrixFits m × LevelDepths (levelSetting s)
 
 pub record Ready (s : Served) : Type 0 where
   pub three : ThreeDepths (s .depths)

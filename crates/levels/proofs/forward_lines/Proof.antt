@@ -3,7 +3,7 @@ use mathlib.Core.Path.{_≡_, ap, _∙_}
 use borrow.Author.Needs.{needs}
 use Rattle.levels.specs.Conversion.{rgbOf}
 use Rattle.levels.specs.Lines.{readersOfRgb, writerOf, lumaWriter, chromaWriter}
-use Rattle.levels.proofs.Served.{served-as, prepared-as, into-luma, into-chroma}
+use Rattle.levels.proofs.Fitting.{fits-as, prepared-as, into-luma, into-chroma}
 use Rattle.levels.proofs.forward_lines.Statement.{statement}
 use Rattle.levels.proofs.forward_lines.Tie as tie
 
@@ -25,10 +25,10 @@ lines-of-requires c κs =
     let s = start c in
     let e = s .pre .0 in
     let h = s .pre .1 in (
-      served-as (from-is c) (light-is c) (into-luma (s .args .s) h _ (e .first)),
+      fits-as (from-is c) (light-is c) (into-luma (s .args .s) h _ (e .first)),
       (
-        served-as (from-is c) (colour-is c) (into-chroma (s .args .s) h _ (e .second)),
-        served-as (from-is c) (colour-is c) (into-chroma (s .args .s) h _ (e .third)),
+        fits-as (from-is c) (colour-is c) (into-chroma (s .args .s) h _ (e .second)),
+        fits-as (from-is c) (colour-is c) (into-chroma (s .args .s) h _ (e .third)),
       ),
     )
 

@@ -3,7 +3,7 @@ use mathlib.Core.Path.{_≡_, ap, _∙_}
 use borrow.Author.Needs.{needs}
 use Rattle.levels.specs.Conversion.{lumaOf, chromaOf}
 use Rattle.levels.specs.Lines.{readersOfYcc, writerOf, rgbWriter}
-use Rattle.levels.proofs.Served.{served-as, prepared-as, luma-served, chroma-served, into-rgb}
+use Rattle.levels.proofs.Fitting.{fits-as, prepared-as, luma-fits, chroma-fits, into-rgb}
 use Rattle.levels.proofs.reverse_lines.Statement.{statement}
 use Rattle.levels.proofs.reverse_lines.Tie as tie
 
@@ -22,17 +22,17 @@ module _ (c : tie.After-writer-of) where
 readers-of-ycc-requires : tie.Need-readers-of-ycc-requires
 readers-of-ycc-requires c κs =
     let s = c .before .before .before .before .before .before in
-    (rw (c .before .luma-scale .ensures) (luma-served (s .args .s) (s .pre .1)), rw (c .chroma-scale .ensures) (chroma-served (s .args .s) (s .pre .1)))
+    (rw (c .before .luma-scale .ensures) (luma-fits (s .args .s) (s .pre .1)), rw (c .chroma-scale .ensures) (chroma-fits (s .args .s) (s .pre .1)))
 
 lines-of-requires : tie.Need-lines-of-requires
 lines-of-requires c κs =
     let s = start c in
     let e = s .pre .0 in
     let h = s .pre .1 in (
-      served-as (from-is c) (to-is c) (into-rgb (s .args .s) h _ (e .first)),
+      fits-as (from-is c) (to-is c) (into-rgb (s .args .s) h _ (e .first)),
       (
-        served-as (from-is c) (to-is c) (into-rgb (s .args .s) h _ (e .second)),
-        served-as (from-is c) (to-is c) (into-rgb (s .args .s) h _ (e .third)),
+        fits-as (from-is c) (to-is c) (into-rgb (s .args .s) h _ (e .second)),
+        fits-as (from-is c) (to-is c) (into-rgb (s .args .s) h _ (e .third)),
       ),
     )
 

@@ -1,6 +1,6 @@
 -- `plan::plan_levels` meets its contract, way by way: the lines of the matrix give what its equations give.
 use borrow.Author.Needs.{needs}
-use Rattle.levels.proofs.Bounds.{samples-served}
+use Rattle.levels.proofs.Bounds.{samples-fit}
 use Rattle.levels.proofs.Pixels.{forward-law, reverse-law}
 use Rattle.plan.proofs.PlanLaws.{all-ready}
 use Rattle.plan.proofs.plan_levels.Statement.{statement}
@@ -15,7 +15,7 @@ returns c =
     rw (c .before .enum-told .given .1)
     (record {
       roomy = all-ready e;
-      takes = λ p i. samples-served (h .rgb) (h .rgb) (h .rgb) i;
+      takes = λ p i. samples-fit (h .rgb) (h .rgb) (h .rgb) i;
       is = λ p. forward-law (s .args .s) h p (s .args .m) m (c .forward-lines .result) e;
     })
 
@@ -28,7 +28,7 @@ returns-2 c =
     rw (c .before .enum-told2 .given .1)
     (record {
       roomy = all-ready e;
-      takes = λ p i. samples-served (h .luma) (h .chroma) (h .chroma) i;
+      takes = λ p i. samples-fit (h .luma) (h .chroma) (h .chroma) i;
       is = λ p. reverse-law (s .args .s) h p (s .args .m) m (c .reverse-lines .result) e;
     })
 

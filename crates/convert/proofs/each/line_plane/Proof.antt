@@ -4,7 +4,7 @@ use Prim.Native.Nat.{_≤_, _-_}
 use native.Mathlib.Omega.{arith}
 use borrow.Author.Needs.{needs}
 use lib.ListN.{length}
-use Rattle.levels.specs.Conversion.{SamplesServed}
+use Rattle.levels.specs.Conversion.{SamplesFit}
 use Rattle.levels.specs.Lines.{lineSample}
 use Rattle.planes.proofs.Tables.{Filled, filled-none, filled-more, filled-all}
 use Rattle.convert.specs.Row.{pixelIn}
@@ -25,7 +25,7 @@ sample-of-requires : tie.Need-sample-of-requires Inv-loop μ-loop
 sample-of-requires c κs =
     let pre = c .before .before .before .before .before .before .before .pre in
     let inside = pre .1 .1 .1 .1 (c .before .before .loop .i) (omega arith) in
-    (pre .0, subst SamplesServed (sym (c .pixel-in .ensures)) inside)
+    (pre .0, subst SamplesFit (sym (c .pixel-in .ensures)) inside)
 
 loop-again : tie.Need-loop-again Inv-loop μ-loop
 loop-again c =

@@ -1,14 +1,14 @@
 -- `levels::equations::equation_g` meets its contract: the products of two weights are part of a bounded total.
 use native.Mathlib.Omega.{arith}
 use borrow.Author.Needs.{needs}
-use Rattle.levels.specs.Conversion.{EquationServed}
-use Rattle.levels.proofs.Bounds.{g-served}
+use Rattle.levels.specs.Conversion.{EquationFits}
+use Rattle.levels.proofs.Bounds.{g-fits}
 use Rattle.levels.specs.Equations.{equationG}
 use Rattle.levels.proofs.equations.equation_g.Statement.{statement}
 use Rattle.levels.proofs.equations.equation_g.Tie as tie
 
-known : (s : tie.Start) → EquationServed (equationG (s .args .k))
-known s = g-served (s .args .k) (s .pre)
+known : (s : tie.Start) → EquationFits (equationG (s .args .k))
+known s = g-fits (s .args .k) (s .pre)
 
 mul-over : tie.Need-mul-over
 mul-over c = let k = known c in omega arith
