@@ -15,13 +15,5 @@ returns-3 c = rw (c .before .enum-told2 .given .1) (c .expected-before2 .ensures
 pub expected-at-spec : {M : Type 1} → statement M
 expected-at-spec =
     tie.close
-    (tie.spec
-    (λ c. search needs)
-    (λ c κs. search needs)
-    (λ c. search needs)
-    (λ c κs. search needs)
-    (λ c. search needs)
-    (λ c κs. search needs)
-    returns
-    returns-2
-    returns-3)
+    (tie.spec (λ c. search needs) (λ c κs. search needs) (λ c. search needs) (λ c κs. search needs) (λ c. search needs)
+    (λ c κs. search needs) returns returns-2 returns-3)
