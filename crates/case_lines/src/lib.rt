@@ -11,6 +11,7 @@ use request::CodeKind;
 use request::form;
 use request::form::Asked;
 use setting::Call;
+use setting::Way;
 use text::reading;
 
 // The byte between two words of a line.
@@ -43,8 +44,8 @@ fn on_label(line: &[u8], kind: CodeKind) {
 
 fn on_line(line: &[u8]) {
     match reading::place_at(line, GAP, 0, b"f r s m y b c p t x F R I") {
-        0 => on_pixel(line, Call::Forward),
-        1 => on_pixel(line, Call::Reverse),
+        0 => on_pixel(line, Call::Convert(Way::Forward)),
+        1 => on_pixel(line, Call::Convert(Way::Reverse)),
         2 => on_pixel(line, Call::ImageCheck),
         3 => on_pixel(line, Call::Meter),
         4 => on_sample(line, SampleKind::Y),
@@ -53,9 +54,9 @@ fn on_line(line: &[u8]) {
         7 => on_label(line, CodeKind::Primaries),
         8 => on_label(line, CodeKind::Transfer),
         9 => on_label(line, CodeKind::Matrix),
-        10 => planes::on_picture(line, Call::Forward, 13),
-        11 => planes::on_picture(line, Call::Reverse, 13),
-        12 => planes::on_picture(line, Call::ImageCheck, 12),
+        10 => planes::on_frame(line, Way::Forward),
+        11 => planes::on_frame(line, Way::Reverse),
+        12 => planes::on_image(line),
         _ => say::bad_line(),
     }
 }

@@ -10,8 +10,8 @@ use frame::FrameAnswer;
 use frame::Size;
 use request::form;
 use request::form::ReadNumber;
-use setting::Call;
 use setting::Setting;
+use setting::Way;
 use text::reading;
 use text::reading::Number;
 
@@ -30,6 +30,21 @@ struct Step {
 struct ReadPlane {
     length: usize,
     next: usize,
+}
+
+// What a line has before its planes, and the first word at fault.
+struct ReadPicture {
+    setting: Setting,
+    width: usize,
+    height: usize,
+    stride: usize,
+    fault: u8,
+}
+
+// What a line asks about the picture of its planes: convert it, or check it with this width, height and stride.
+enum PictureRequest {
+    Convert(Way, Setting, Size),
+    Check(Setting, usize, usize, usize),
 }
 
 fn next_number(line: &[u8], at: usize, most: u64) -> Step
@@ -81,7 +96,7 @@ fn old_contents(fill: u64, out: &mut [u16]) {
 }
 
 fn convert(
-    forward: bool,
+    way: Way,
     s: Setting,
     z: Size,
     a0: &[u16],
@@ -91,14 +106,14 @@ fn convert(
     b1: &mut [u16],
     b2: &mut [u16],
 ) -> FrameAnswer {
-    if forward {
-        return frames::forward_frame(s, z, a0, a1, a2, b0, b1, b2);
+    match way {
+        Way::Forward => frames::forward_frame(s, z, a0, a1, a2, b0, b1, b2),
+        Way::Reverse => frames::reverse_frame(s, z, a0, a1, a2, b0, b1, b2),
     }
-    frames::reverse_frame(s, z, a0, a1, a2, b0, b1, b2)
 }
 
 fn convert_and_say(
-    forward: bool,
+    way: Way,
     s: Setting,
     z: Size,
     a0: &[u16],
@@ -108,7 +123,7 @@ fn convert_and_say(
     b1: &mut [u16],
     b2: &mut [u16],
 ) {
-    say::frame(convert(forward, s, z, a0, a1, a2, b0, b1, b2));
+    say::frame(convert(way, s, z, a0, a1, a2, b0, b1, b2));
     say::plane(b0);
     say::plane(b1);
     say::plane(b2);
@@ -118,7 +133,7 @@ fn convert_and_say(
 fn convert_into(
     line: &[u8],
     at: usize,
-    forward: bool,
+    way: Way,
     s: Setting,
     z: Size,
     a0: &[u16],
@@ -143,7 +158,7 @@ fn convert_into(
     let l1 = n1.value as usize;
     let l2 = n2.value as usize;
     convert_and_say(
-        forward,
+        way,
         s,
         z,
         a0,
@@ -155,62 +170,34 @@ fn convert_into(
     );
 }
 
-fn on_frame(line: &[u8], at: usize, forward: bool, a0: &[u16], a1: &[u16], a2: &[u16]) {
-    let w = form::setting_words(line, GAP, &RANGES);
-    let width = size_at(line, 9, w.fault);
-    let height = size_at(line, 10, width.fault);
-    let source_stride = size_at(line, 11, height.fault);
-    let output_stride = size_at(line, 12, source_stride.fault);
-    if output_stride.fault != form::CLEAR {
-        say::bad_line();
-        return;
-    }
-    let s = w.setting;
-    let z = Size {
-        width: width.value as usize,
-        height: height.value as usize,
-        source_stride: source_stride.value as usize,
-        output_stride: output_stride.value as usize,
-    };
-    convert_into(line, at, forward, s, z, a0, a1, a2);
-}
-
-fn on_image(line: &[u8], at: usize, a0: &[u16], a1: &[u16], a2: &[u16]) {
-    let w = form::setting_words(line, GAP, &RANGES);
-    let width = size_at(line, 9, w.fault);
-    let height = size_at(line, 10, width.fault);
-    let stride = size_at(line, 11, height.fault);
-    if stride.fault != form::CLEAR {
-        say::bad_line();
-        return;
-    }
+// The image check, where the line ends with the last plane.
+fn check(
+    line: &[u8],
+    at: usize,
+    s: Setting,
+    width: usize,
+    height: usize,
+    stride: usize,
+    a0: &[u16],
+    a1: &[u16],
+    a2: &[u16],
+) {
     if at != line.len() {
         say::bad_line();
         return;
     }
-    say::image(frames::image_check(
-        w.setting,
-        width.value as usize,
-        height.value as usize,
-        stride.value as usize,
-        a0,
-        a1,
-        a2,
-    ));
+    say::image(frames::image_check(s, width, height, stride, a0, a1, a2));
 }
 
-fn on_planes(line: &[u8], at: usize, call: Call, a0: &[u16], a1: &[u16], a2: &[u16]) {
-    match call {
-        Call::Forward => on_frame(line, at, true, a0, a1, a2),
-        Call::Reverse => on_frame(line, at, false, a0, a1, a2),
-        Call::ImageCheck => on_image(line, at, a0, a1, a2),
-        // no line meters a picture
-        Call::Meter => say::bad_line(),
+fn on_planes(line: &[u8], at: usize, request: PictureRequest, a0: &[u16], a1: &[u16], a2: &[u16]) {
+    match request {
+        PictureRequest::Convert(way, s, z) => convert_into(line, at, way, s, z, a0, a1, a2),
+        PictureRequest::Check(s, w, h, stride) => check(line, at, s, w, h, stride, a0, a1, a2),
     }
 }
 
-// A line on a picture: three planes, from word `first` on.
-pub fn on_picture(line: &[u8], call: Call, first: u8) {
+// Three planes, from word `first` on.
+fn on_picture(line: &[u8], first: u8, request: PictureRequest) {
     let mut a0 = [0u16; ROOM];
     let mut a1 = [0u16; ROOM];
     let mut a2 = [0u16; ROOM];
@@ -220,5 +207,52 @@ pub fn on_picture(line: &[u8], call: Call, first: u8) {
     let l0 = p0.length;
     let l1 = p1.length;
     let l2 = p2.length;
-    on_planes(line, p2.next, call, &a0[..l0], &a1[..l1], &a2[..l2]);
+    on_planes(line, p2.next, request, &a0[..l0], &a1[..l1], &a2[..l2]);
+}
+
+// Words 1 to 11: the setting, and the sizes that every picture has.
+fn picture_words(line: &[u8]) -> ReadPicture {
+    let w = form::setting_words(line, GAP, &RANGES);
+    let setting = w.setting;
+    let width = size_at(line, 9, w.fault);
+    let height = size_at(line, 10, width.fault);
+    let stride = size_at(line, 11, height.fault);
+    ReadPicture {
+        setting,
+        width: width.value as usize,
+        height: height.value as usize,
+        stride: stride.value as usize,
+        fault: stride.fault,
+    }
+}
+
+pub fn on_frame(line: &[u8], way: Way) {
+    let p = picture_words(line);
+    let output = size_at(line, 12, p.fault);
+    if output.fault != form::CLEAR {
+        say::bad_line();
+        return;
+    }
+    let setting = p.setting;
+    let size = Size {
+        width: p.width,
+        height: p.height,
+        input_stride: p.stride,
+        output_stride: output.value as usize,
+    };
+    on_picture(line, 13, PictureRequest::Convert(way, setting, size));
+}
+
+pub fn on_image(line: &[u8]) {
+    let p = picture_words(line);
+    if p.fault != form::CLEAR {
+        say::bad_line();
+        return;
+    }
+    let setting = p.setting;
+    on_picture(
+        line,
+        12,
+        PictureRequest::Check(setting, p.width, p.height, p.stride),
+    );
 }

@@ -114,7 +114,7 @@ fn levels(y: u32, cb: u32, cr: u32) {
 
 pub fn answer(a: Answer) {
     match a {
-        Answer::Samples(p) => pixel(p),
+        Answer::Samples(_, p) => pixel(p),
         Answer::Source(found) => source(found),
         Answer::Level(x) => level(x),
         Answer::Levels(y, cb, cr) => levels(y, cb, cr),

@@ -11,6 +11,7 @@ use request::form;
 use request::form::Asked;
 use request::form::Expected;
 use setting::Call;
+use setting::Way;
 use text::reading;
 
 // The byte between two words: no word can hold it.
@@ -19,27 +20,23 @@ const GAP: u8 = 0;
 // The names of the two ranges.
 const RANGES: [u8; 11] = *b"narrow full";
 
-fn asked(words: &[u8], forward: bool, a: Asked) {
+fn asked(words: &[u8], a: Asked) {
     match a {
-        Asked::For(request) => saying::answer(forward, request::ask::ask(request)),
+        Asked::For(request) => saying::answer(request::ask::ask(request)),
         Asked::Fault { word, expected } => saying::fault(words, word, expected),
     }
 }
 
-fn on_pixel(words: &[u8], forward: bool, call: Call) {
-    asked(words, forward, form::pixel_form(call, words, GAP, &RANGES));
+fn on_pixel(words: &[u8], call: Call) {
+    asked(words, form::pixel_form(call, words, GAP, &RANGES));
 }
 
 fn on_sample(words: &[u8], kind: SampleKind) {
-    asked(
-        words,
-        true,
-        form::sample_form(kind, words, GAP, &RANGES, 10),
-    );
+    asked(words, form::sample_form(kind, words, GAP, &RANGES, 10));
 }
 
 fn on_code(words: &[u8], kind: CodeKind) {
-    asked(words, true, form::label_form(kind, words, GAP, 2));
+    asked(words, form::label_form(kind, words, GAP, 2));
 }
 
 fn on_meter(words: &[u8]) {
@@ -47,7 +44,7 @@ fn on_meter(words: &[u8]) {
         0 => on_sample(words, SampleKind::Y),
         1 => on_sample(words, SampleKind::Cb),
         2 => on_sample(words, SampleKind::Cr),
-        _ => on_pixel(words, true, Call::Meter),
+        _ => on_pixel(words, Call::Meter),
     }
 }
 
@@ -68,9 +65,9 @@ fn on_words(words: &[u8]) {
         b"forward reverse source meter label help --help -h",
     );
     match verb {
-        0 => on_pixel(words, true, Call::Forward),
-        1 => on_pixel(words, false, Call::Reverse),
-        2 => on_pixel(words, true, Call::ImageCheck),
+        0 => on_pixel(words, Call::Convert(Way::Forward)),
+        1 => on_pixel(words, Call::Convert(Way::Reverse)),
+        2 => on_pixel(words, Call::ImageCheck),
         3 => on_meter(words),
         4 => on_label(words),
         5..=7 => wording::usage(),

@@ -8,6 +8,7 @@ use refusal::Refusal;
 use request::ask::Answer;
 use request::form::Expected;
 use sample::Pixel;
+use setting::Way;
 use setting::label::Label;
 use text::reading;
 
@@ -50,22 +51,23 @@ fn refused(r: Refusal) {
     say(b"\n");
 }
 
-fn samples(forward: bool, p: Pixel) {
-    if forward {
-        say(b"Y ");
-        number(p.p0 as u64);
-        say(b"  Cb ");
-        number(p.p1 as u64);
-        say(b"  Cr ");
-    } else {
-        say(b"R ");
-        number(p.p0 as u64);
-        say(b"  G ");
-        number(p.p1 as u64);
-        say(b"  B ");
-    }
+// Three samples, each after its name.
+fn samples(name0: &[u8], name1: &[u8], name2: &[u8], p: Pixel) {
+    say(name0);
+    number(p.p0 as u64);
+    say(name1);
+    number(p.p1 as u64);
+    say(name2);
     number(p.p2 as u64);
     say(b"\n");
+}
+
+// The way that made the samples says which three they are.
+fn converted(way: Way, p: Pixel) {
+    match way {
+        Way::Forward => samples(b"Y ", b"  Cb ", b"  Cr ", p),
+        Way::Reverse => samples(b"R ", b"  G ", b"  B ", p),
+    }
 }
 
 // Half, rounded up.
@@ -129,9 +131,9 @@ fn source(found: bool) {
     say(b"none: no RGB pixel within depth converts to this one\n");
 }
 
-pub fn answer(forward: bool, a: Answer) {
+pub fn answer(a: Answer) {
     match a {
-        Answer::Samples(p) => samples(forward, p),
+        Answer::Samples(way, p) => converted(way, p),
         Answer::Source(found) => source(found),
         Answer::Level(bits) => level(b"sample", bits),
         Answer::Levels(y, cb, cr) => {

@@ -1,4 +1,4 @@
--- The box's answer to a request: what its entry point answers, with a level as its bits.
+-- The box's answer to a request: what its entry point answers, with the way of converted samples, and a level as its bits.
 use mathlib.Core.Bool.{true, false}
 use Prim.Native.Nat.{ℕ}
 use lib.Ieee.{binary32, toBits}
@@ -8,7 +8,7 @@ use Rattle.setting.specs.declared.Call.{Call}
 use Rattle.setting.specs.declared.Call.the-variants as call
 use Rattle.setting.specs.declared.Setting.{Setting}
 use Rattle.setting.specs.declared.label.Label.{Label}
-use Rattle.pixel.specs.declared.Way.the-variants.{Forward, Reverse}
+use Rattle.setting.specs.declared.Way.{Way}
 use Rattle.corkplover.specs.Answers.{pixelAnswer, sourceAnswer, reading, levelsAnswer}
 use Rattle.corkplover.specs.declared.pixels.PixelAnswer.{PixelAnswer}
 use Rattle.corkplover.specs.declared.pixels.PixelAnswer.the-variants as pixel
@@ -25,9 +25,9 @@ use Rattle.request.specs.declared.Request.the-variants as request
 use Rattle.request.specs.declared.ask.Answer.{Answer}
 use Rattle.request.specs.declared.ask.Answer.the-variants.{Samples, Source, Level, Levels, Label as Labelled, Refused}
 
-abbrev pub ofPixel : PixelAnswer → Answer
-ofPixel (pixel.Converted p) = Samples p
-ofPixel (pixel.Refused r) = Refused r
+abbrev pub ofPixel : Way → PixelAnswer → Answer
+ofPixel w (pixel.Converted p) = Samples w p
+ofPixel w (pixel.Refused r) = Refused r
 
 abbrev pub ofSource : SourceAnswer → Answer
 ofSource source.Yes = Source true
@@ -43,8 +43,7 @@ ofLevels (levels.Levels l) = Levels (toBits binary32 (l .y)) (toBits binary32 (l
 ofLevels (levels.Refused r) = Refused r
 
 abbrev pub askPixel : Call → Setting → Pixel → Answer
-askPixel call.Forward s p = ofPixel (pixelAnswer Forward s p)
-askPixel call.Reverse s p = ofPixel (pixelAnswer Reverse s p)
+askPixel (call.Convert w) s p = ofPixel w (pixelAnswer w s p)
 askPixel call.Meter s p = ofLevels (levelsAnswer s p)
 askPixel call.ImageCheck s p = ofSource (sourceAnswer s p)
 

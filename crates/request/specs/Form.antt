@@ -11,7 +11,9 @@ use Rattle.text.specs.declared.reading.Number.the-variants as number
 use Rattle.meter.specs.declared.SampleKind.{SampleKind}
 use Rattle.meter.specs.declared.SampleKind.the-variants as kind
 use Rattle.setting.specs.declared.Call.{Call}
-use Rattle.setting.specs.declared.Call.the-variants.{Forward, Reverse, Meter, ImageCheck}
+use Rattle.setting.specs.declared.Call.the-variants.{Convert, Meter, ImageCheck}
+use Rattle.setting.specs.declared.Way.{Way}
+use Rattle.setting.specs.declared.Way.the-variants.{Forward, Reverse}
 use Rattle.request.specs.declared.CodeKind.{CodeKind}
 use Rattle.request.specs.declared.Request.the-variants as request
 use Rattle.request.specs.declared.form.Asked.{Asked}
@@ -87,11 +89,15 @@ wordsWith a b c = Verb ∷ Primaries ∷ Transfer ∷ Matrix ∷ RgbDepth ∷ YD
 abbrev pub expectedWith : Expected → Expected → Expected → ℕ → Expected
 expectedWith a b c n = getD (wordsWith a b c) n NoMore
 
+-- the samples before a forward conversion are R, G, B, and Y, Cb, Cr before a reverse one
+abbrev pub expectedBefore : Way → ℕ → Expected
+expectedBefore Forward n = expectedWith Red Green Blue n
+expectedBefore Reverse n = expectedWith Luma Cb Cr n
+
 abbrev pub expectedAt : Call → ℕ → Expected
-expectedAt Forward n = expectedWith Red Green Blue n
-expectedAt Reverse n = expectedWith Luma Cb Cr n
-expectedAt ImageCheck n = expectedWith Luma Cb Cr n
+expectedAt (Convert w) n = expectedBefore w n
 expectedAt Meter n = expectedWith KindOrLuma Cb Cr n
+expectedAt ImageCheck n = expectedBefore Reverse n
 
 abbrev pub expectedSample : SampleKind → Expected
 expectedSample kind.Y = Luma

@@ -1,6 +1,7 @@
-// Every request is passed on to its entry point, and the answers come back as one type. A level is handed on as its bits.
+// Every request is passed on to its entry point, and the answers come back as one type. Samples come with the way that made them, a level as
+// its bits.
 ghost use mathlib.Core.Path.{_≡_};
-ghost use Rattle.corkplover.specs.Answers.{reading, levelsAnswer};
+ghost use Rattle.corkplover.specs.Answers.{pixelAnswer, reading, levelsAnswer};
 ghost use Rattle.request.specs.Answers.{ofPixel, ofSource, ofReading, ofLevels, askPixel, labelFor, answerTo};
 use crate::CodeKind;
 use crate::Request;
@@ -16,10 +17,11 @@ use refusal::Refusal;
 use sample::Pixel;
 use setting::Call;
 use setting::Setting;
+use setting::Way;
 use setting::label::Label;
 
 pub enum Answer {
-    Samples(Pixel),
+    Samples(Way, Pixel),
     Source(bool),
     Level(u32),
     Levels(u32, u32, u32),
@@ -27,11 +29,20 @@ pub enum Answer {
     Refused(Refusal),
 }
 
-fn of_pixel(a: PixelAnswer) -> Answer
-    ensures { λ r. ⌜ r ≡ ofPixel a ⌝ }
+fn convert(way: Way, s: Setting, p: Pixel) -> PixelAnswer
+    ensures { λ r. ⌜ r ≡ pixelAnswer way s p ⌝ }
+{
+    match way {
+        Way::Forward => pixels::forward_pixel(s, p),
+        Way::Reverse => pixels::reverse_pixel(s, p),
+    }
+}
+
+fn of_pixel(way: Way, a: PixelAnswer) -> Answer
+    ensures { λ r. ⌜ r ≡ ofPixel way a ⌝ }
 {
     match a {
-        PixelAnswer::Converted(p) => Answer::Samples(p),
+        PixelAnswer::Converted(p) => Answer::Samples(way, p),
         PixelAnswer::Refused(refusal) => Answer::Refused(refusal),
     }
 }
@@ -72,8 +83,7 @@ fn ask_pixel(call: Call, s: Setting, p: Pixel) -> Answer
     ensures { λ r. ⌜ r ≡ askPixel call s p ⌝ }
 {
     match call {
-        Call::Forward => of_pixel(pixels::forward_pixel(s, p)),
-        Call::Reverse => of_pixel(pixels::reverse_pixel(s, p)),
+        Call::Convert(way) => of_pixel(way, convert(way, s, p)),
         Call::Meter => ask_levels(s, p),
         Call::ImageCheck => of_source(pixels::source_pixel(s, p)),
     }

@@ -2,13 +2,14 @@
 // stands between words, and the names of the two ranges, narrow and full, with a blank between them.
 ghost use mathlib.Core.Path.{_≡_};
 ghost use Prim.Native.Nat.{_≤_, _<_, min};
-ghost use Rattle.request.specs.Form.{numberWord, rangeWord, endOfWords, settingWords, pixelWords, expectedWith, expectedAt, expectedSample, pixelForm, sampleForm, labelForm};
+ghost use Rattle.request.specs.Form.{numberWord, rangeWord, endOfWords, settingWords, pixelWords, expectedWith, expectedBefore, expectedAt, expectedSample, pixelForm, sampleForm, labelForm};
 use crate::CodeKind;
 use crate::Request;
 use meter::SampleKind;
 use sample::Pixel;
 use setting::Call;
 use setting::Setting;
+use setting::Way;
 use text::reading;
 use text::reading::Number;
 
@@ -177,15 +178,24 @@ fn expected_with(a: Expected, b: Expected, c: Expected, n: u8) -> Expected
     words[n as usize]
 }
 
-// What was expected of a word of a pixel's request: its samples are R, G, B before a forward call, else Y, Cb, Cr.
+// What was expected of a word where the samples are those that a conversion reads.
+fn expected_before(way: Way, n: u8) -> Expected
+    ensures { λ r. ⌜ r ≡ expectedBefore way n ⌝ }
+{
+    match way {
+        Way::Forward => expected_with(Expected::Red, Expected::Green, Expected::Blue, n),
+        Way::Reverse => expected_with(Expected::Luma, Expected::Cb, Expected::Cr, n),
+    }
+}
+
+// What was expected of a word of a pixel's request.
 fn expected_at(call: Call, n: u8) -> Expected
     ensures { λ r. ⌜ r ≡ expectedAt call n ⌝ }
 {
     match call {
-        Call::Forward => expected_with(Expected::Red, Expected::Green, Expected::Blue, n),
-        Call::Reverse => expected_with(Expected::Luma, Expected::Cb, Expected::Cr, n),
-        Call::ImageCheck => expected_with(Expected::Luma, Expected::Cb, Expected::Cr, n),
+        Call::Convert(way) => expected_before(way, n),
         Call::Meter => expected_with(Expected::KindOrLuma, Expected::Cb, Expected::Cr, n),
+        Call::ImageCheck => expected_before(Way::Reverse, n),
     }
 }
 

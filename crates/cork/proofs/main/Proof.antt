@@ -12,14 +12,5 @@ slice-aggregate-on-words c = sym (length-take-le _ _ (omega arith))
 pub main-spec : {M : Type 1} → statement M
 main-spec =
     tie.close
-    (tie.spec
-    (λ c κs. search needs)
-    (λ c κs. search needs)
-    (λ c. search needs)
-    (λ c κs. search needs)
-    (λ c. search needs)
-    (λ c κs. search needs)
-    (λ c. search needs)
-    slice-aggregate-on-words
-    (λ c κs. search needs)
-    (λ c. search needs))
+    (tie.spec (λ c κs. search needs) (λ c κs. search needs) (λ c. search needs) (λ c κs. search needs) (λ c. search needs)
+    (λ c κs. search needs) (λ c. search needs) slice-aggregate-on-words (λ c κs. search needs) (λ c. search needs))

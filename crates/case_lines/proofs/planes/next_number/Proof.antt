@@ -11,10 +11,5 @@ returns c = number-most _ _ _ (sym (c .before .before .before .before .number-fr
 pub next-number-spec : {M : Type 1} → statement M
 next-number-spec =
     tie.close
-    (tie.spec
-    (λ c κs. search needs)
-    (λ c. search needs)
-    (λ c κs. search needs)
-    (λ c. search needs)
-    returns
+    (tie.spec (λ c κs. search needs) (λ c. search needs) (λ c κs. search needs) (λ c. search needs) returns
     (λ c. search needs))

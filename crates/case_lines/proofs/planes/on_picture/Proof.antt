@@ -9,19 +9,7 @@ use Rattle.case_lines.proofs.planes.on_picture.Tie as tie
 pub on-picture-spec : {M : Type 1} → statement M
 on-picture-spec =
     tie.close
-    (tie.spec
-    (λ c κs. search needs)
-    (λ c. search needs)
-    (λ c κs. search needs)
-    (λ c. search needs)
-    (λ c κs. search needs)
-    (λ c. search needs)
-    (λ c κs. search needs)
-    (λ c. search needs)
-    (λ c. sym (length-take-le _ _ (omega arith)))
-    (λ c. search needs)
-    (λ c. sym (length-take-le _ _ (omega arith)))
-    (λ c. search needs)
-    (λ c. sym (length-take-le _ _ (omega arith)))
-    (λ c κs. search needs)
-    (λ c. search needs))
+    (tie.spec (λ c κs. search needs) (λ c. search needs) (λ c κs. search needs) (λ c. search needs) (λ c κs. search needs)
+    (λ c. search needs) (λ c κs. search needs) (λ c. search needs) (λ c. sym (length-take-le _ _ (omega arith)))
+    (λ c. search needs) (λ c. sym (length-take-le _ _ (omega arith))) (λ c. search needs)
+    (λ c. sym (length-take-le _ _ (omega arith))) (λ c κs. search needs) (λ c. search needs))

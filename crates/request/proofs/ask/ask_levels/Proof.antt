@@ -30,12 +30,5 @@ returns-2 c = rw (← c .before .before .before .meter-pixel .ensures, c .before
 pub ask-levels-spec : {M : Type 1} → statement M
 ask-levels-spec =
     tie.close
-    (tie.spec
-    (λ c κs. search needs)
-    (λ c. search needs)
-    float-to-bits-t7
-    float-to-bits-t8
-    float-to-bits-t9
-    (λ c. search needs)
-    returns
-    returns-2)
+    (tie.spec (λ c κs. search needs) (λ c. search needs) float-to-bits-t7 float-to-bits-t8 float-to-bits-t9
+    (λ c. search needs) returns returns-2)

@@ -6,33 +6,16 @@ use Rattle.request.proofs.ask.ask_pixel.Statement.{statement}
 use Rattle.request.proofs.ask.ask_pixel.Tie as tie
 
 returns : tie.Need-returns
-returns c = rw (c .before .before .enum-told .given .1) (c .of-pixel .ensures ∙ ap ofPixel (c .before .forward-pixel .ensures))
+returns c = rw (c .before .before .before .call .given .1) (c .of-pixel .ensures ∙ ap (ofPixel _) (c .before .convert .ensures))
 
 returns-2 : tie.Need-returns-2
-returns-2 c = rw (c .before .before .enum-told2 .given .1) (c .of-pixel2 .ensures ∙ ap ofPixel (c .before .reverse-pixel .ensures))
+returns-2 c = rw (c .before .enum-told .given .1) (c .ask-levels .ensures)
 
 returns-3 : tie.Need-returns-3
-returns-3 c = rw (c .before .enum-told3 .given .1) (c .ask-levels .ensures)
-
-returns-4 : tie.Need-returns-4
-returns-4 c = rw (c .before .before .enum-told4 .given .1) (c .of-source .ensures ∙ ap ofSource (c .before .source-pixel .ensures))
+returns-3 c = rw (c .before .before .enum-told2 .given .1) (c .of-source .ensures ∙ ap ofSource (c .before .source-pixel .ensures))
 
 pub ask-pixel-spec : {M : Type 1} → statement M
 ask-pixel-spec =
     tie.close
-    (tie.spec
-    (λ c. search needs)
-    (λ c κs. search needs)
-    (λ c κs. search needs)
-    (λ c. search needs)
-    (λ c κs. search needs)
-    (λ c κs. search needs)
-    (λ c. search needs)
-    (λ c κs. search needs)
-    (λ c. search needs)
-    (λ c κs. search needs)
-    (λ c κs. search needs)
-    returns
-    returns-2
-    returns-3
-    returns-4)
+    (tie.spec (λ c. search needs) (λ c κs. search needs) (λ c κs. search needs) (λ c. search needs) (λ c κs. search needs)
+    (λ c. search needs) (λ c κs. search needs) (λ c κs. search needs) returns returns-2 returns-3)

@@ -17,11 +17,4 @@ returns-2 c = rw (← c .before .before .before .meter-sample .ensures, c .befor
 
 pub ask-sample-spec : {M : Type 1} → statement M
 ask-sample-spec =
-    tie.close
-    (tie.spec
-    (λ c κs. search needs)
-    (λ c. search needs)
-    float-to-bits-t8
-    (λ c. search needs)
-    returns
-    returns-2)
+    tie.close (tie.spec (λ c κs. search needs) (λ c. search needs) float-to-bits-t8 (λ c. search needs) returns returns-2)

@@ -9,10 +9,4 @@ returns-3 c = rw (c .before .a .given .1)
 pub of-source-spec : {M : Type 1} → statement M
 of-source-spec =
     tie.close
-    (tie.spec
-    (λ c. search needs)
-    (λ c. search needs)
-    (λ c. search needs)
-    (λ c. search needs)
-    (λ c. search needs)
-    returns-3)
+    (tie.spec (λ c. search needs) (λ c. search needs) (λ c. search needs) (λ c. search needs) (λ c. search needs) returns-3)

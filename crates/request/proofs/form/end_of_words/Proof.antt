@@ -10,5 +10,4 @@ returns-2 : tie.Need-returns-2
 returns-2 c = rw (← c .before .has-word .ensures, c .if1 .left)
 
 pub end-of-words-spec : {M : Type 1} → statement M
-end-of-words-spec =
-    tie.close (tie.spec (λ c κs. search needs) (λ c κs. search needs) returns returns-2)
+end-of-words-spec = tie.close (tie.spec (λ c κs. search needs) (λ c κs. search needs) returns returns-2)

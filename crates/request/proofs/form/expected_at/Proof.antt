@@ -4,30 +4,16 @@ use Rattle.request.proofs.form.expected_at.Statement.{statement}
 use Rattle.request.proofs.form.expected_at.Tie as tie
 
 returns : tie.Need-returns
-returns c = rw (c .before .enum-told .given .1) (c .expected-with .ensures)
+returns c = rw (c .before .before .call .given .1) (c .expected-before .ensures)
 
 returns-2 : tie.Need-returns-2
-returns-2 c = rw (c .before .enum-told2 .given .1) (c .expected-with2 .ensures)
+returns-2 c = rw (c .before .enum-told .given .1) (c .expected-with .ensures)
 
 returns-3 : tie.Need-returns-3
-returns-3 c = rw (c .before .enum-told3 .given .1) (c .expected-with3 .ensures)
-
-returns-4 : tie.Need-returns-4
-returns-4 c = rw (c .before .enum-told4 .given .1) (c .expected-with4 .ensures)
+returns-3 c = rw (c .before .enum-told2 .given .1) (c .expected-before2 .ensures)
 
 pub expected-at-spec : {M : Type 1} → statement M
 expected-at-spec =
     tie.close
-    (tie.spec
-    (λ c. search needs)
-    (λ c κs. search needs)
-    (λ c. search needs)
-    (λ c κs. search needs)
-    (λ c. search needs)
-    (λ c κs. search needs)
-    (λ c. search needs)
-    (λ c κs. search needs)
-    returns
-    returns-2
-    returns-3
-    returns-4)
+    (tie.spec (λ c. search needs) (λ c κs. search needs) (λ c. search needs) (λ c κs. search needs) (λ c. search needs)
+    (λ c κs. search needs) returns returns-2 returns-3)

@@ -22,5 +22,4 @@ returns-2 : tie.Need-returns-2
 returns-2 c = let a = c .before .before .args in inside (wordsWith (a .a) (a .b) (a .c)) (a .n) _ NoMore (omega arith)
 
 pub expected-with-spec : {M : Type 1} → statement M
-expected-with-spec =
-    tie.close (tie.spec returns (λ c. search needs) returns-2)
+expected-with-spec = tie.close (tie.spec returns (λ c. search needs) returns-2)

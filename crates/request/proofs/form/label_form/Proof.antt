@@ -20,11 +20,5 @@ returns-3 c = rw (← c .before .before .before .number-word .ensures .0, ← c 
 pub label-form-spec : {M : Type 1} → statement M
 label-form-spec =
     tie.close
-    (tie.spec
-    (λ c κs. search needs)
-    (λ c. search needs)
-    (λ c κs. search needs)
-    (λ c. search needs)
-    returns
-    returns-2
+    (tie.spec (λ c κs. search needs) (λ c. search needs) (λ c κs. search needs) (λ c. search needs) returns returns-2
     returns-3)

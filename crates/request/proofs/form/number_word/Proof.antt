@@ -14,11 +14,4 @@ returns-2 c = (rw (← c .before .before .before .number-at .ensures, c .before 
 
 pub number-word-spec : {M : Type 1} → statement M
 number-word-spec =
-    tie.close
-    (tie.spec
-    (λ c κs. search needs)
-    (λ c. search needs)
-    (λ c. search needs)
-    (λ c κs. search needs)
-    returns
-    returns-2)
+    tie.close (tie.spec (λ c κs. search needs) (λ c. search needs) (λ c. search needs) (λ c κs. search needs) returns returns-2)

@@ -11,11 +11,5 @@ returns c = rw (c .before .before .before .number-word3 .ensures .0, c .before .
 pub pixel-words-spec : {M : Type 1} → statement M
 pixel-words-spec =
     tie.close
-    (tie.spec
-    (λ c κs. search needs)
-    (λ c κs. search needs)
-    (λ c κs. search needs)
-    (λ c. search needs)
-    (λ c. search needs)
-    (λ c. search needs)
-    returns)
+    (tie.spec (λ c κs. search needs) (λ c κs. search needs) (λ c κs. search needs) (λ c. search needs) (λ c. search needs)
+    (λ c. search needs) returns)

@@ -11,5 +11,4 @@ returns-2 : tie.Need-returns-2
 returns-2 c = rw (← c .before .before .place-at .ensures, le-ltb _ _ (c .before .if1 .left), c .earlier .ensures)
 
 pub range-word-spec : {M : Type 1} → statement M
-range-word-spec =
-    tie.close (tie.spec (λ c κs. search needs) returns (λ c κs. search needs) returns-2)
+range-word-spec = tie.close (tie.spec (λ c κs. search needs) returns (λ c κs. search needs) returns-2)

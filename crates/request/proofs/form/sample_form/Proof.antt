@@ -1,5 +1,4 @@
 -- `request::form::sample_form` meets its contract: the tests are those of the definition.
-use mathlib.Core.Path.{ap}
 use borrow.Author.Tests.{eq-eqb, ne-eqb}
 use Rattle.request.specs.Form.{sampleForm}
 use borrow.Author.Needs.{needs}
@@ -41,14 +40,5 @@ returns-3 c =
 pub sample-form-spec : {M : Type 1} → statement M
 sample-form-spec =
     tie.close
-    (tie.spec
-    (λ c κs. search needs)
-    (λ c κs. search needs)
-    (λ c. search needs)
-    (λ c κs. search needs)
-    (λ c. search needs)
-    returns
-    (λ c κs. search needs)
-    returns-2
-    (λ c κs. search needs)
-    returns-3)
+    (tie.spec (λ c κs. search needs) (λ c κs. search needs) (λ c. search needs) (λ c κs. search needs) (λ c. search needs)
+    returns (λ c κs. search needs) returns-2 (λ c κs. search needs) returns-3)

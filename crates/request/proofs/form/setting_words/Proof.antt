@@ -11,33 +11,21 @@ cast-t13 c = omega (arith, c .before .before .before .before .before .before .be
 returns : tie.Need-returns
 unfolding settingWords
 returns c =
+    let e = c .before .before .before .before .before .before .before .before in
     rw (
-      c .before .before .before .before .before .before .before .before .range-word2 .ensures,
-      c .before .before .before .before .before .before .before .before .before .range-word .ensures,
-      c .before .before .before .before .before .before .before .before .before .before .number-word6 .ensures .0,
-      c .before .before .before .before .before .before .before .before .before .before .before .number-word5 .ensures .0,
-      c .before .before .before .before .before .before .before .before .before .before .before .before .number-word4 .ensures .0,
-      c .before .before .before .before .before .before .before .before .before .before .before .before .before .number-word3 .ensures .0,
-      c .before .before .before .before .before .before .before .before .before .before .before .before .before .before .number-word2 .ensures .0,
-      c .before .before .before .before .before .before .before .before .before .before .before .before .before .before .before .number-word .ensures .0,
+      e .range-word2 .ensures,
+      e .before .range-word .ensures,
+      e .before .before .number-word6 .ensures .0,
+      e .before .before .before .number-word5 .ensures .0,
+      e .before .before .before .before .number-word4 .ensures .0,
+      e .before .before .before .before .before .number-word3 .ensures .0,
+      e .before .before .before .before .before .before .number-word2 .ensures .0,
+      e .before .before .before .before .before .before .before .number-word .ensures .0,
     )
 
 pub setting-words-spec : {M : Type 1} → statement M
 setting-words-spec =
     tie.close
-    (tie.spec
-    (λ c κs. search needs)
-    (λ c κs. search needs)
-    (λ c κs. search needs)
-    (λ c κs. search needs)
-    (λ c κs. search needs)
-    (λ c κs. search needs)
-    (λ c κs. search needs)
-    (λ c κs. search needs)
-    cast-t13
-    (λ c. search needs)
-    (λ c. search needs)
-    (λ c. search needs)
-    (λ c. search needs)
-    (λ c. search needs)
-    returns)
+    (tie.spec (λ c κs. search needs) (λ c κs. search needs) (λ c κs. search needs) (λ c κs. search needs)
+    (λ c κs. search needs) (λ c κs. search needs) (λ c κs. search needs) (λ c κs. search needs) cast-t13 (λ c. search needs)
+    (λ c. search needs) (λ c. search needs) (λ c. search needs) (λ c. search needs) returns)

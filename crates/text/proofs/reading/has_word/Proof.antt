@@ -9,5 +9,4 @@ returns : tie.Need-returns
 returns c = let a = c .before .before .args in starts-there (a .gap) (now (a .s)) (a .n) _ (c .start-of .ensures)
 
 pub has-word-spec : {M : Type 1} → statement M
-has-word-spec =
-    tie.close (tie.spec (λ c κs. search needs) returns)
+has-word-spec = tie.close (tie.spec (λ c κs. search needs) returns)

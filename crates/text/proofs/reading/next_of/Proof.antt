@@ -17,5 +17,4 @@ returns-2 c =
     next-none (a .gap) (now (a .s)) (a .at) (omega (arith, c .before .end-of .ensures))
 
 pub next-of-spec : {M : Type 1} → statement M
-next-of-spec =
-    tie.close (tie.spec (λ c κs. search needs) (λ c. search needs) returns returns-2)
+next-of-spec = tie.close (tie.spec (λ c κs. search needs) (λ c. search needs) returns returns-2)

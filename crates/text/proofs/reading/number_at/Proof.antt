@@ -11,5 +11,4 @@ returns c =
     rw (← starts-word (a .gap) (now (a .s)) (a .n) (c .before .start-of .result) (c .before .start-of .ensures)) (c .number-from .ensures)
 
 pub number-at-spec : {M : Type 1} → statement M
-number-at-spec =
-    tie.close (tie.spec (λ c κs. search needs) (λ c κs. search needs) returns)
+number-at-spec = tie.close (tie.spec (λ c κs. search needs) (λ c κs. search needs) returns)

@@ -7,5 +7,4 @@ returns : tie.Need-returns
 returns c = rw (← c .before .word-from .ensures) (c .number-in .ensures)
 
 pub number-from-spec : {M : Type 1} → statement M
-number-from-spec =
-    tie.close (tie.spec (λ c κs. search needs) (λ c κs. search needs) returns)
+number-from-spec = tie.close (tie.spec (λ c κs. search needs) (λ c κs. search needs) returns)

@@ -37,9 +37,6 @@ returns-3 c =
 returns-4 : tie.Need-returns-4 Inv-loop μ-loop
 returns-4 c = let l = c .before .before .before .before .before .loop in too-far _ (l .i) (l .value) _ (omega arith) (l .inv .3) (omega arith)
 
-sub-if5 : tie.Need-sub-if5 Inv-loop μ-loop
-sub-if5 c = omega arith
-
 returns-5 : tie.Need-returns-5 Inv-loop μ-loop
 returns-5 c = let l = c .before .before .before .before .before .before .loop in too-far _ (l .i) (l .value) _ (omega arith) (l .inv .3) (omega arith)
 
@@ -66,21 +63,6 @@ returns-6 c =
 pub number-in-spec : {M : Type 1} → statement M
 number-in-spec =
     tie.close
-    (tie.spec
-    Inv-loop
-    μ-loop
-    returns
-    loop-holds
-    (λ c. search needs)
-    returns-2
-    returns-3
-    (λ c. search needs)
-    returns-4
-    (λ c. search needs)
-    sub-if5
-    returns-5
-    (λ c. search needs)
-    (λ c. search needs)
-    (λ c. search needs)
-    loop-again
+    (tie.spec Inv-loop μ-loop returns loop-holds (λ c. search needs) returns-2 returns-3 (λ c. search needs) returns-4
+    (λ c. search needs) (λ c. omega arith) returns-5 (λ c. search needs) (λ c. search needs) (λ c. search needs) loop-again
     returns-6)

@@ -26,9 +26,6 @@ returns c =
     let e = place-here (now (a .names)) (now (a .word)) (l .at) (omega arith) (rw (← c .before .before .word-from .ensures) (sym (c .before .same-word .ensures) ∙ c .if1 .taken)) in
     omega (arith, l .inv .0)
 
-add-n : tie.Need-add-n Inv-loop μ-loop
-add-n c = omega arith
-
 loop-less : tie.Need-loop-less Inv-loop μ-loop
 loop-less c = let h = c .next-of .ensures .onward (omega arith) in omega (arith, c .next-of .ensures .within)
 
@@ -51,15 +48,6 @@ returns-2 c =
 
 pub place-among-spec : {M : Type 1} → statement M
 place-among-spec =
-    tie.close (tie.spec
-    Inv-loop
-    μ-loop
-    loop-holds
-    (λ c κs. search needs)
-    (λ c κs. search needs)
-    returns
-    (λ c κs. search needs)
-    add-n
-    loop-less
-    loop-again
-    returns-2)
+    tie.close
+    (tie.spec Inv-loop μ-loop loop-holds (λ c κs. search needs) (λ c κs. search needs) returns (λ c κs. search needs)
+    (λ c. omega arith) loop-less loop-again returns-2)

@@ -12,5 +12,4 @@ returns c =
     c .word-from .ensures ∙ starts-word (a .gap) (now (a .s)) (a .n) (c .before .start-of .result) (c .before .start-of .ensures)
 
 pub word-at-spec : {M : Type 1} → statement M
-word-at-spec =
-    tie.close (tie.spec (λ c κs. search needs) (λ c κs. search needs) returns)
+word-at-spec = tie.close (tie.spec (λ c κs. search needs) (λ c κs. search needs) returns)

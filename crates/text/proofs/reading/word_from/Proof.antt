@@ -24,10 +24,6 @@ returns-2 c =
 
 pub word-from-spec : {M : Type 1} → statement M
 word-from-spec =
-    tie.close (tie.spec (λ c κs. search needs)
-    (λ c. search needs)
-    (λ c. search needs)
-    part-result-end
-    returns
-    (λ c. search needs)
+    tie.close
+    (tie.spec (λ c κs. search needs) (λ c. search needs) (λ c. search needs) part-result-end returns (λ c. search needs)
     returns-2)
