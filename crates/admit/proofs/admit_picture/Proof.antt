@@ -55,5 +55,6 @@ returns-3 c =
 pub admit-picture-spec : {M : Type 1} → statement M
 admit-picture-spec =
     tie.close
-    (tie.spec (λ c κs. search needs) (λ c. search needs) (λ c. search needs) returns (λ c κs. search needs) (λ c. search needs)
-    returns-2 (λ c. search needs) (λ c κs. search needs) tops-requires first-bad-of-three-requires (λ c κs. search needs) returns-3)
+    (tie.spec (λ c κs. search needs) (λ c. search needs) (λ c. search needs) returns (λ c κs. search needs)
+    (λ c. search needs) returns-2 (λ c. search needs) (λ c κs. search needs) tops-requires first-bad-of-three-requires
+    (λ c κs. search needs) returns-3)

@@ -29,4 +29,5 @@ returns-2 c =
 pub admit-sample-spec : {M : Type 1} → statement M
 admit-sample-spec =
     tie.close
-    (tie.spec (λ c κs. search needs) (λ c. search needs) (λ c. search needs) returns bad-one-requires (λ c κs. search needs) returns-2)
+    (tie.spec (λ c κs. search needs) (λ c. search needs) (λ c. search needs) returns bad-one-requires (λ c κs. search needs)
+    returns-2)

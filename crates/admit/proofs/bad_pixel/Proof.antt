@@ -12,4 +12,5 @@ returns c = c .first-bad-of-three .ensures ∙ ap (badSample (pixelPicture (c .b
 pub bad-pixel-spec : {M : Type 1} → statement M
 bad-pixel-spec =
     tie.close
-    (tie.spec (λ c. search needs) (λ c. search needs) (λ c. search needs) (λ c κs. search needs) (λ c κs. search needs) returns)
+    (tie.spec (λ c. search needs) (λ c. search needs) (λ c. search needs) (λ c κs. search needs) (λ c κs. search needs)
+    returns)

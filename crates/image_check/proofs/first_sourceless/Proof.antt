@@ -46,8 +46,8 @@ returns-2 c =
 pub first-sourceless-spec : {M : Type 1} → statement M
 first-sourceless-spec =
     tie.close
-    (tie.spec Inv-loop μ-loop Inv-rows μ-rows (λ c. walked-none) (λ c κs. search needs) (λ c. search needs) (λ c. search needs)
+    (tie.spec Inv-loop μ-loop Inv-rows μ-rows (λ c. walked-none) (λ c κs. search needs) (λ c. search needs)
     (λ c. search needs) (λ c. search needs) (λ c. search needs) (λ c. search needs) (λ c. search needs) (λ c. search needs)
-    comes-back-requires (λ c. search needs) (λ c. search needs) (λ c. search needs) (λ c. search needs) loop-again
-    (λ c. search needs) (λ c. search needs) (λ c. walked-row (c .before .loop .inv) (omega arith) (omega arith))
+    (λ c. search needs) comes-back-requires (λ c. search needs) (λ c. search needs) (λ c. search needs) (λ c. search needs)
+    loop-again (λ c. search needs) (λ c. search needs) (λ c. walked-row (c .before .loop .inv) (omega arith) (omega arith))
     (λ c. walked-all (c .before .rows .inv) 0 (omega arith)) returns-2)

@@ -70,5 +70,6 @@ returns-3 c = rw (c .enum-told .given .1) at (answered (c .before .before))
 pub image-check-spec : {M : Type 1} → statement M
 image-check-spec =
     tie.close
-    (tie.spec (λ c κs. search needs) (λ c. search needs) (λ c. search needs) (λ c κs. known c .ready) (λ c κs. known (c .before) .ready)
-    first-sourceless-requires (λ c. search needs) (λ c. search needs) returns returns-2 returns-3)
+    (tie.spec (λ c κs. search needs) (λ c. search needs) (λ c. search needs) (λ c κs. known c .ready)
+    (λ c κs. known (c .before) .ready) first-sourceless-requires (λ c. search needs) (λ c. search needs) returns returns-2
+    returns-3)

@@ -35,4 +35,5 @@ returns : tie.Need-returns
 returns c = let s = c .before .before in simp (v-is s, plus-is s, above-is s)
 
 pub level-spec : {M : Type 1} → statement M
-level-spec = tie.close (tie.spec (λ c. search needs) (λ c. search needs) sub-above int-to-float-numerator int-to-float-denominator returns)
+level-spec =
+    tie.close (tie.spec (λ c. search needs) (λ c. search needs) sub-above int-to-float-numerator int-to-float-denominator returns)

@@ -35,5 +35,5 @@ returns-2 c =
 pub plan-levels-spec : {M : Type 1} → statement M
 plan-levels-spec =
     tie.close
-    (tie.spec (λ c. search needs) (λ c κs. (c .before .before .pre .0 .forward, c .before .before .pre .1)) (λ c. search needs)
-    (λ c κs. (c .before .before .pre .0 .reverse, c .before .before .pre .1)) returns returns-2)
+    (tie.spec (λ c. search needs) (λ c κs. (c .before .before .pre .0 .forward, c .before .before .pre .1))
+    (λ c. search needs) (λ c κs. (c .before .before .pre .0 .reverse, c .before .before .pre .1)) returns returns-2)

@@ -10,4 +10,7 @@ returns-2 : tie.Need-returns-2
 returns-2 c = rw (c .before .if1 .left, c .power2 .ensures .is)
 
 pub chroma-scale-spec : {M : Type 1} → statement M
-chroma-scale-spec = tie.close (tie.spec (λ c κs. search needs) (λ c. search needs) (λ c. search needs) (λ c κs. search needs) (λ c. search needs) returns (λ c. search needs) (λ c κs. search needs) (λ c. search needs) (λ c. search needs) (λ c. search needs) returns-2)
+chroma-scale-spec =
+    tie.close
+    (tie.spec (λ c κs. search needs) (λ c. search needs) (λ c. search needs) (λ c κs. search needs) (λ c. search needs)
+    returns (λ c. search needs) (λ c κs. search needs) (λ c. search needs) (λ c. search needs) (λ c. search needs) returns-2)

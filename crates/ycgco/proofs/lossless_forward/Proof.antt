@@ -13,18 +13,6 @@ wide : (s : tie.Start) → let H = 2 ^ (s .args .d .chroma .0 - 1) in (2 ^ (s .a
 wide s =
     (pow-mono {j = s .args .d .chroma .0 - 1} (omega (arith, s .pre .0 .chroma-room)), pow-mono {j = 15} (omega (arith, s .pre .0 .chroma-most)))
 
-sub-cr : tie.Need-sub-cr
-sub-cr c = omega (arith, wide (c .before .before .before .before))
-
-sub-cb : tie.Need-sub-cb
-sub-cb c = omega (arith, wide (c .before .before .before .before))
-
-cast-t15 : tie.Need-cast-t15
-cast-t15 c = omega (arith, wide (c .before .before .before .before))
-
-cast-t16 : tie.Need-cast-t16
-cast-t16 c = omega (arith, wide (c .before .before .before .before))
-
 returns : tie.Need-returns
 unfolding losslessForward
 returns c =
@@ -41,19 +29,8 @@ returns c =
 pub lossless-forward-spec : {M : Type 1} → statement M
 lossless-forward-spec =
     tie.close
-    (tie.spec
-    (λ c. search needs)
-    (λ c κs. search needs)
-    (λ c. search needs)
-    (λ c. search needs)
-    (λ c. search needs)
-    (λ c. search needs)
-    sub-cr
-    (λ c. search needs)
-    (λ c. search needs)
-    sub-cb
-    (λ c. search needs)
-    (λ c. search needs)
-    cast-t15
-    cast-t16
-    returns)
+    (tie.spec (λ c. search needs) (λ c κs. search needs) (λ c. search needs) (λ c. search needs) (λ c. search needs)
+    (λ c. search needs) (λ c. omega (arith, wide (c .before .before .before .before))) (λ c. search needs) (λ c. search needs)
+    (λ c. omega (arith, wide (c .before .before .before .before))) (λ c. search needs) (λ c. search needs)
+    (λ c. omega (arith, wide (c .before .before .before .before)))
+    (λ c. omega (arith, wide (c .before .before .before .before))) returns)

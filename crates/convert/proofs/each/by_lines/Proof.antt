@@ -27,11 +27,5 @@ returns c = (c .before .before .before .before .before .before .before .before .
 pub by-lines-spec : {M : Type 1} → statement M
 by-lines-spec =
     tie.close
-    (tie.spec
-    line-plane-requires
-    line-plane-requires-2
-    line-plane-requires-3
-    (λ c. search needs)
-    (λ c. search needs)
-    (λ c. search needs)
-    returns)
+    (tie.spec line-plane-requires line-plane-requires-2 line-plane-requires-3 (λ c. search needs) (λ c. search needs)
+    (λ c. search needs) returns)

@@ -40,17 +40,5 @@ returns c = written-all (c .before .loop .inv .1) (omega arith)
 pub lossless-forward-spec : {M : Type 1} → statement M
 lossless-forward-spec =
     tie.close
-    (tie.spec
-    Inv-loop
-    μ-loop
-    loop-holds
-    (λ c κs. search needs)
-    lossless-forward-requires
-    (λ c κs. search needs)
-    add-i
-    (λ c. search needs)
-    loop-again
-    (λ c. search needs)
-    (λ c. search needs)
-    (λ c. search needs)
-    returns)
+    (tie.spec Inv-loop μ-loop loop-holds (λ c κs. search needs) lossless-forward-requires (λ c κs. search needs) add-i
+    (λ c. search needs) loop-again (λ c. search needs) (λ c. search needs) (λ c. search needs) returns)

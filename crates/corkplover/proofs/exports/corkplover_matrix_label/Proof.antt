@@ -7,5 +7,4 @@ returns : tie.Need-returns
 returns c = cc
 
 pub corkplover-matrix-label-spec : {M : Type 1} → statement M
-corkplover-matrix-label-spec =
-    tie.close (tie.spec (λ c κs. search needs) (λ c κs. search needs) returns)
+corkplover-matrix-label-spec = tie.close (tie.spec (λ c κs. search needs) (λ c κs. search needs) returns)

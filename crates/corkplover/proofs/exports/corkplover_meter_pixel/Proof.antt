@@ -9,10 +9,5 @@ returns c = (cc, (cc, (cc, cc)))
 pub corkplover-meter-pixel-spec : {M : Type 1} → statement M
 corkplover-meter-pixel-spec =
     tie.close
-    (tie.spec
-    (λ c κs. search needs)
-    (λ c κs. search needs)
-    (λ c κs. search needs)
-    (λ c κs. search needs)
-    (λ c κs. search needs)
-    returns)
+    (tie.spec (λ c κs. search needs) (λ c κs. search needs) (λ c κs. search needs) (λ c κs. search needs)
+    (λ c κs. search needs) returns)

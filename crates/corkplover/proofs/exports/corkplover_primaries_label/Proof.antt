@@ -7,5 +7,4 @@ returns : tie.Need-returns
 returns c = cc
 
 pub corkplover-primaries-label-spec : {M : Type 1} → statement M
-corkplover-primaries-label-spec =
-    tie.close (tie.spec (λ c κs. search needs) (λ c κs. search needs) returns)
+corkplover-primaries-label-spec = tie.close (tie.spec (λ c κs. search needs) (λ c κs. search needs) returns)

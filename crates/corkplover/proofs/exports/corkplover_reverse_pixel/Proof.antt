@@ -8,10 +8,4 @@ returns c = cc
 
 pub corkplover-reverse-pixel-spec : {M : Type 1} → statement M
 corkplover-reverse-pixel-spec =
-    tie.close
-    (tie.spec
-    (λ c κs. search needs)
-    (λ c κs. search needs)
-    (λ c κs. search needs)
-    (λ c κs. search needs)
-    returns)
+    tie.close (tie.spec (λ c κs. search needs) (λ c κs. search needs) (λ c κs. search needs) (λ c κs. search needs) returns)

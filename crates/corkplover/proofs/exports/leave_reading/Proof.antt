@@ -8,10 +8,4 @@ returns c = (cc, cc)
 
 pub leave-reading-spec : {M : Type 1} → statement M
 leave-reading-spec =
-    tie.close
-    (tie.spec
-    (λ c κs. search needs)
-    (λ c κs. search needs)
-    (λ c κs. search needs)
-    (λ c κs. search needs)
-    returns)
+    tie.close (tie.spec (λ c κs. search needs) (λ c κs. search needs) (λ c κs. search needs) (λ c κs. search needs) returns)

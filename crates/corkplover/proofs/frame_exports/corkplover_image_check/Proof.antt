@@ -7,5 +7,4 @@ returns : tie.Need-returns
 returns c = cc
 
 pub corkplover-image-check-spec : {M : Type 1} → statement M
-corkplover-image-check-spec =
-    tie.close (tie.spec (λ c κs. search needs) (λ c κs. search needs) (λ c κs. search needs) returns)
+corkplover-image-check-spec = tie.close (tie.spec (λ c κs. search needs) (λ c κs. search needs) (λ c κs. search needs) returns)

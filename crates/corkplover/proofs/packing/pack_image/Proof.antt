@@ -12,12 +12,5 @@ returns-3 c = rw (c .before .before .answer2 .given .1) (c .pack-refusal .ensure
 pub pack-image-spec : {M : Type 1} → statement M
 pack-image-spec =
     tie.close
-    (tie.spec
-    (λ c. search needs)
-    (λ c. search needs)
-    (λ c κs. search needs)
-    (λ c. search needs)
-    (λ c κs. search needs)
-    (λ c. search needs)
-    returns-2
-    returns-3)
+    (tie.spec (λ c. search needs) (λ c. search needs) (λ c κs. search needs) (λ c. search needs) (λ c κs. search needs)
+    (λ c. search needs) returns-2 returns-3)

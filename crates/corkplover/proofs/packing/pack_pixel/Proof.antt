@@ -11,11 +11,4 @@ returns-2 c = rw (c .before .before .answer2 .given .1) (c .pack-refusal .ensure
 
 pub pack-pixel-spec : {M : Type 1} → statement M
 pack-pixel-spec =
-    tie.close
-    (tie.spec
-    (λ c. search needs)
-    (λ c κs. search needs)
-    (λ c. search needs)
-    (λ c κs. search needs)
-    returns
-    returns-2)
+    tie.close (tie.spec (λ c. search needs) (λ c κs. search needs) (λ c. search needs) (λ c κs. search needs) returns returns-2)

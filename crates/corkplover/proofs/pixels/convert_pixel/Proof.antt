@@ -29,5 +29,5 @@ returns-2 c =
 pub convert-pixel-spec : {M : Type 1} → statement M
 convert-pixel-spec =
     tie.close
-    (tie.spec (λ c κs. search needs) (λ c. search needs) (λ c. search needs) (λ c κs. known (c .before) .is-ready) pixel-requires
-    returns returns-2)
+    (tie.spec (λ c κs. search needs) (λ c. search needs) (λ c. search needs) (λ c κs. known (c .before) .is-ready)
+    pixel-requires returns returns-2)

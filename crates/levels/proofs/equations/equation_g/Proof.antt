@@ -10,14 +10,9 @@ use Rattle.levels.proofs.equations.equation_g.Tie as tie
 known : (s : tie.Start) → EquationFits (equationG (s .args .k))
 known s = g-fits (s .args .k) (s .pre)
 
-mul-over : tie.Need-mul-over
-mul-over c = let k = known c in omega arith
-
-mul-blue-2 : tie.Need-mul-blue-2
-mul-blue-2 c = let k = known c in omega arith
-
-mul-red-2 : tie.Need-mul-red-2
-mul-red-2 c = let k = known c in omega arith
-
 pub equation-g-spec : {M : Type 1} → statement M
-equation-g-spec = tie.close (tie.spec mul-over (λ c. search needs) (λ c. search needs) mul-blue-2 (λ c. search needs) (λ c. search needs) mul-red-2 (λ c. search needs))
+equation-g-spec =
+    tie.close
+    (tie.spec (λ c. let k = known c in omega arith) (λ c. search needs) (λ c. search needs)
+    (λ c. let k = known c in omega arith) (λ c. search needs) (λ c. search needs) (λ c. let k = known c in omega arith)
+    (λ c. search needs))

@@ -54,14 +54,5 @@ returns-4 c =
 pub check-sizes-spec : {M : Type 1} → statement M
 check-sizes-spec =
     tie.close
-    (tie.spec
-    (λ c κs. search needs)
-    (λ c κs. search needs)
-    returns
-    layout-short-requires
-    (λ c κs. search needs)
-    returns-2
-    layout-short-requires-2
-    (λ c κs. search needs)
-    returns-3
-    returns-4)
+    (tie.spec (λ c κs. search needs) (λ c κs. search needs) returns layout-short-requires (λ c κs. search needs) returns-2
+    layout-short-requires-2 (λ c κs. search needs) returns-3 returns-4)

@@ -14,19 +14,11 @@ use Rattle.planes.proofs.size.layout_short.Tie as tie
 short : (width height : ℕ) (x : Layout) → (LongEnough width height x → ⊥) → true ≡ layoutShort width height x
 short width height x f = sym (must _ (λ e. f (long-exactly width height x .0 e)))
 
-returns : tie.Need-returns
-returns c = short _ _ _ (λ k. omega arith)
-
-returns-2 : tie.Need-returns-2
-returns-2 c = short _ _ _ (λ k. omega arith)
-
-returns-3 : tie.Need-returns-3
-returns-3 c = short _ _ _ (λ k. omega arith)
-
 returns-4 : tie.Need-returns-4
 returns-4 c = sym (long-exactly _ _ _ .1 (omega arith))
 
 pub layout-short-spec : {M : Type 1} → statement M
 layout-short-spec =
     tie.close
-    (tie.spec (λ c. search needs) (λ c κs. search needs) (λ c. search needs) returns returns-2 returns-3 returns-4)
+    (tie.spec (λ c. search needs) (λ c κs. search needs) (λ c. search needs) (λ c. short _ _ _ (λ k. omega arith))
+    (λ c. short _ _ _ (λ k. omega arith)) (λ c. short _ _ _ (λ k. omega arith)) returns-4)

@@ -23,4 +23,5 @@ returns c = (
 )
 
 pub divisor-of-spec : {M : Type 1} → statement M
-divisor-of-spec = tie.close (tie.spec (λ c κs. search needs) (λ c. search needs) (λ c. search needs) add-leading (λ c. search needs) returns)
+divisor-of-spec =
+    tie.close (tie.spec (λ c κs. search needs) (λ c. search needs) (λ c. search needs) add-leading (λ c. search needs) returns)

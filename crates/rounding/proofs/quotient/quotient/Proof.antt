@@ -59,16 +59,5 @@ returns-2 c =
 pub quotient-spec : {M : Type 1} → statement M
 quotient-spec =
     tie.close
-    (tie.spec
-    Inv-loop
-    μ-loop
-    returns
-    shr-found
-    mul-found
-    mul-rest
-    sub-rest
-    loop-holds
-    add-found
-    loop-less
-    loop-again
+    (tie.spec Inv-loop μ-loop returns shr-found mul-found mul-rest sub-rest loop-holds add-found loop-less loop-again
     returns-2)

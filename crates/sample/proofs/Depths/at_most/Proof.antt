@@ -5,17 +5,11 @@ use Rattle.sample.proofs.DepthLaws.{at-most-yes, at-most-no}
 use Rattle.sample.proofs.Depths.at_most.Statement.{statement}
 use Rattle.sample.proofs.Depths.at_most.Tie as tie
 
-returns : tie.Need-returns
-returns c = sym (at-most-no _ _ (λ k. omega arith))
-
-returns-2 : tie.Need-returns-2
-returns-2 c = sym (at-most-no _ _ (λ k. omega arith))
-
-returns-3 : tie.Need-returns-3
-returns-3 c = sym (at-most-no _ _ (λ k. omega arith))
-
 returns-4 : tie.Need-returns-4
 returns-4 c = sym (at-most-yes _ _ (omega arith))
 
 pub at-most-spec : {M : Type 1} → statement M
-at-most-spec = tie.close (tie.spec returns returns-2 returns-3 returns-4)
+at-most-spec =
+    tie.close
+    (tie.spec (λ c. sym (at-most-no _ _ (λ k. omega arith))) (λ c. sym (at-most-no _ _ (λ k. omega arith)))
+    (λ c. sym (at-most-no _ _ (λ k. omega arith))) returns-4)

@@ -12,11 +12,5 @@ returns-2 c = rw (c .enum-told2 .given .1, c .before .before .before .largest2 .
 pub tops-spec : {M : Type 1} → statement M
 tops-spec =
     tie.close
-    (tie.spec
-    (λ c κs. search needs)
-    (λ c κs. search needs)
-    (λ c κs. search needs)
-    (λ c. search needs)
-    (λ c. search needs)
-    returns
-    returns-2)
+    (tie.spec (λ c κs. search needs) (λ c κs. search needs) (λ c κs. search needs) (λ c. search needs) (λ c. search needs)
+    returns returns-2)

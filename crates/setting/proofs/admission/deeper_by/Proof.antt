@@ -7,11 +7,8 @@ use Rattle.setting.proofs.admission.deeper_by.Tie as tie
 returns : tie.Need-returns
 returns c = rw (lt-leb _ _ (c .if1 .taken))
 
-add-result : tie.Need-add-result
-add-result c = search needs
-
 returns-2 : tie.Need-returns-2
 returns-2 c = rw (le-leb _ _ (c .if1 .left))
 
 pub deeper-by-spec : {M : Type 1} → statement M
-deeper-by-spec = tie.close (tie.spec returns add-result returns-2)
+deeper-by-spec = tie.close (tie.spec returns (λ c. search needs) returns-2)

@@ -57,11 +57,5 @@ returns-3 c =
 pub served-depths-spec : {M : Type 1} → statement M
 served-depths-spec =
     tie.close
-    (tie.spec
-    (λ c κs. search needs)
-    (λ c. search needs)
-    (λ c. search needs)
-    returns
-    (λ c κs. search needs)
-    returns-2
+    (tie.spec (λ c κs. search needs) (λ c. search needs) (λ c. search needs) returns (λ c κs. search needs) returns-2
     returns-3)

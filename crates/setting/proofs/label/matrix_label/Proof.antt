@@ -25,13 +25,5 @@ returns-4 c = met (c .before .before .matrix-of .ensures) (c .enum-told4 .given 
 pub matrix-label-spec : {M : Type 1} → statement M
 matrix-label-spec =
     tie.close
-    (tie.spec
-    (λ c κs. search needs)
-    (λ c. search needs)
-    (λ c. search needs)
-    (λ c. search needs)
-    (λ c. search needs)
-    returns
-    returns-2
-    returns-3
-    returns-4)
+    (tie.spec (λ c κs. search needs) (λ c. search needs) (λ c. search needs) (λ c. search needs) (λ c. search needs) returns
+    returns-2 returns-3 returns-4)

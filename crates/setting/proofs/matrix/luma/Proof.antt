@@ -3,11 +3,8 @@ use borrow.Author.Needs.{needs}
 use Rattle.setting.proofs.matrix.luma.Statement.{statement}
 use Rattle.setting.proofs.matrix.luma.Tie as tie
 
-luma-requires : tie.Need-luma-requires
-luma-requires c κs = search needs
-
 returns : tie.Need-returns
 returns c = rw (c .luma .ensures)
 
 pub luma-spec : {M : Type 1} → statement M
-luma-spec = tie.close (tie.spec luma-requires returns)
+luma-spec = tie.close (tie.spec (λ c κs. search needs) returns)
