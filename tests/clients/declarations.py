@@ -1,4 +1,5 @@
-"""Compares what the header and the bindings declare with the exports as the box's source has them: names, types, order.
+"""Compares what the header and the bindings declare with the exports as the box's source has them: names, types, order. Compares, too, the
+words that they have for each refusal, and the numbers of the rules' page with them.
 
 Standard input is the header after the preprocessor. The box's compiler knows nothing of these declarations, and a call with small
 numbers may come out right though a type is too wide; so the texts are compared, parameter by parameter.
@@ -42,8 +43,8 @@ def of_source():
     return found
 
 
-def of_header():
-    text = re.sub(r"\s+", " ", re.sub(r"^#.*$", "", sys.stdin.read(), flags=re.M))
+def of_header(header):
+    text = re.sub(r"\s+", " ", re.sub(r"^#.*$", "", header, flags=re.M))
     declared = re.finditer(r"(uint\d+_t) (corkplover_\w+)\(([^)]*)\);", text)
     return {d[2]: parameters(d[3], before_name, C) + " -> " + C[d[1]] for d in declared}
 
@@ -60,15 +61,35 @@ def of_python():
     return {f.__name__: " ".join(PYTHON.get(t, "unknown(%s)" % t) for t in f.argtypes) + " -> " + PYTHON[f.restype] for f in functions}
 
 
+def read(path):
+    with open(path) as file:
+        return file.read()
+
+
+def words_differ(header):
+    """What is wrong with the words for refusals, a line each."""
+    of_c = re.findall(r'case \w+: return "([^"]*)";', header)
+    of_rust = re.findall(r'^    "([^"]*)",$', read("bindings/rust/corkplover.rs").split("const TEXTS")[1].split("];")[0], flags=re.M)
+    numbers = sorted(int(n) for n in re.findall(r"^\| (\d+) \|", read("docs/RULES.md").split("## Refusals")[1].split("\n## ")[0], flags=re.M))
+    if not of_c == of_rust == list(corkplover._TEXTS):
+        yield "words for refusals: the header has %s\n  Rust %s\n  Python %s" % (of_c, of_rust, corkplover._TEXTS)
+    if numbers != list(range(1, len(of_c))):
+        yield "the rules have refusals %s, and there are words for 1 to %d" % (numbers, len(of_c) - 1)
+
+
 def main():
+    header = sys.stdin.read()
     source = of_source()
     untyped = {name: re.sub(r"\*(mut-)?u16", "pointer", types).replace("usize", "u64") for name, types in source.items()}
     wrong = 0
-    for place, declared, wanted in (("header", of_header(), source), ("Rust", of_rust(), source), ("Python", of_python(), untyped)):
+    for place, declared, wanted in (("header", of_header(header), source), ("Rust", of_rust(), source), ("Python", of_python(), untyped)):
         for name in sorted(set(declared) | set(wanted)):
             if declared.get(name) != wanted.get(name):
                 wrong += 1
                 print("%s, %s:\n  declared %s\n  exported %s" % (place, name, declared.get(name), wanted.get(name)))
+    for line in words_differ(header):
+        wrong += 1
+        print(line)
     print("%d exports, %d differences" % (len(source), wrong))
     return 1 if wrong or len(source) < 12 else 0
 

@@ -33,7 +33,7 @@ use Rattle.planes.specs.declared.size.Layout.{Layout}
 use Rattle.planes.proofs.SearchTheorems.{nothing-in-pixels-means}
 use Rattle.planes.proofs.SizeTheorems.{fits}
 use Rattle.admit.specs.Rules.{callAdmission, beyondDepth, pixelPicture, pixelAdmission, sampleAdmission}
-use Rattle.admit.proofs.AdmitLaws.{told-served, in-turn, by-sample}
+use Rattle.admit.proofs.AdmitLaws.{admitted-passed, in-turn, by-sample}
 
 -- no rule applies
 pub record Accepted (call : Call) (s : Setting) (sizes : List Rule) (bad : Found) : Type 0 where
@@ -47,15 +47,15 @@ none-bad (At place) e = absurd (true≢false cc)
 none-bad Nothing e = cc
 
 module _ (call : Call) (s : Setting) (sizes : List Rule) (bad : Found) where
-  pub accepted-of : (x : Served) → callAdmission call s sizes bad ≡ admission.Served x → Accepted call s sizes bad × (served s ≡ x)
+  pub accepted-of : (x : Served) → callAdmission call s sizes bad ≡ admission.Admitted x → Accepted call s sizes bad × (served s ≡ x)
   unfolding callAdmission
   accepted-of x e =
-      let t = told-served _ (served s) x e in
+      let t = admitted-passed _ (served s) x e in
       let u = neither _ _ (sym (in-turn call s sizes bad) ∙ t .0) in
       let v = neither _ _ (u .1) in
       (record { setting = u .0; sizes-pass = v .0; samples = none-bad bad (v .1) }, t .1)
 
-  pub of-accepted : Accepted call s sizes bad → callAdmission call s sizes bad ≡ admission.Served (served s)
+  pub of-accepted : Accepted call s sizes bad → callAdmission call s sizes bad ≡ admission.Admitted (served s)
   unfolding first
   of-accepted k = sym (by-sample call s sizes bad (k .setting) (k .sizes-pass)) ∙ rw (k .samples)
 
@@ -95,19 +95,19 @@ module _ (call : Call) (s : Setting) (a : Picture) (others : List Layout) where
     pixels-inside = inside-exactly (reads call) (depths s) a .0 (k .samples)
 
 -- of a call on a pixel
-pub record LetIn (side : Side) (p : Pixel) (x : Served) : Type 0 where
+pub record PixelAdmitted (side : Side) (p : Pixel) (x : Served) : Type 0 where
   pub is-ready : Ready x
   pub inside : InsideOf side (x .depths) p
 
-pub let-in : (call : Call) (s : Setting) (p : Pixel) (x : Served) → pixelAdmission call s p ≡ admission.Served x → LetIn (reads call) p x
-let-in call s p x e =
+pub pixel-admitted : (call : Call) (s : Setting) (p : Pixel) (x : Served) → pixelAdmission call s p ≡ admission.Admitted x → PixelAdmitted (reads call) p x
+pixel-admitted call s p x e =
     let k = accepted-of call s [] _ x e in
-    subst (LetIn (reads call) p) (k .1)
+    subst (PixelAdmitted (reads call) p) (k .1)
     (record {
       is-ready = ready call s (k .0 .setting);
       inside = inside-exactly (reads call) (depths s) (pixelPicture p) .0 (k .0 .samples) 0 0 (omega arith) (omega arith);
     })
 
 -- and of the meter's on one sample
-pub one-ready : (k : SampleKind) (s : Setting) (v : ℕ) (x : Served) → sampleAdmission k s v ≡ admission.Served x → Ready x
+pub one-ready : (k : SampleKind) (s : Setting) (v : ℕ) (x : Served) → sampleAdmission k s v ≡ admission.Admitted x → Ready x
 one-ready k s v x e = let t = accepted-of call.Meter s [] _ x e in subst Ready (t .1) (ready call.Meter s (t .0 .setting))

@@ -24,13 +24,13 @@ use Rattle.planes.proofs.SizeTheorems.{twice}
 use Rattle.admit.specs.Rules.{callRules, callAdmission, pictureAdmission}
 
 -- what an admission tells of the check that it was made by
-pub told-served : (c : Check) (x y : Served) → admitted c x ≡ admission.Served y → (c ≡ check.Passed) × (x ≡ y)
-told-served check.Passed x y e = (refl, cc)
-told-served (check.Refused r) x y e = absurd (true≢false cc)
+pub admitted-passed : (c : Check) (x y : Served) → admitted c x ≡ admission.Admitted y → (c ≡ check.Passed) × (x ≡ y)
+admitted-passed check.Passed x y e = (refl, cc)
+admitted-passed (check.Refused r) x y e = absurd (true≢false cc)
 
-pub told-refused : (c : Check) (x : Served) (r : Refusal) → admitted c x ≡ admission.Refused r → c ≡ check.Refused r
-told-refused check.Passed x r e = absurd (true≢false cc)
-told-refused (check.Refused q) x r e = cc
+pub refused-by : (c : Check) (x : Served) (r : Refusal) → admitted c x ≡ admission.Refused r → c ≡ check.Refused r
+refused-by check.Passed x r e = absurd (true≢false cc)
+refused-by (check.Refused q) x r e = cc
 
 -- the three parts of a call's rules
 pub in-turn : (call : Call) (s : Setting) (sizes : List Rule) (bad : Found)
@@ -43,14 +43,14 @@ in-turn call s sizes bad =
 module _ (call : Call) (s : Setting) where
   pub refused-setting : (a : Admission) (r : Refusal) → a ≡ settingAdmission call s → a ≡ admission.Refused r → first (settingRules call s) ≡ check.Refused r
   unfolding settingAdmission
-  refused-setting a r e f = told-refused _ (served s) r (sym e ∙ f)
+  refused-setting a r e f = refused-by _ (served s) r (sym e ∙ f)
 
-  pub served-setting : (a : Admission) (x : Served) → a ≡ settingAdmission call s → a ≡ admission.Served x
+  pub served-setting : (a : Admission) (x : Served) → a ≡ settingAdmission call s → a ≡ admission.Admitted x
       → (first (settingRules call s) ≡ check.Passed) × (served s ≡ x)
   unfolding settingAdmission
-  served-setting a x e f = told-served _ (served s) x (sym e ∙ f)
+  served-setting a x e f = admitted-passed _ (served s) x (sym e ∙ f)
 
-  pub served-ready : (a : Admission) (x : Served) → a ≡ settingAdmission call s → a ≡ admission.Served x → Ready x
+  pub served-ready : (a : Admission) (x : Served) → a ≡ settingAdmission call s → a ≡ admission.Admitted x → Ready x
   served-ready a x e f = let t = served-setting a x e f in rw (← t .1) (ready call s (t .0))
 
   module _ (sizes : List Rule) (bad : Found) where
@@ -73,7 +73,7 @@ module _ (call : Call) (s : Setting) where
     by-sample e f = (λ i. answer (sym e i) (sym f i)) ∙ by-parts
 
     -- the code's own answer, of the setting as it was checked and of what was found
-    pub past-setting : (a b : Admission) (x : Served) (f : Found) → a ≡ settingAdmission call s → a ≡ admission.Served x → first sizes ≡ check.Passed
+    pub past-setting : (a b : Admission) (x : Served) (f : Found) → a ≡ settingAdmission call s → a ≡ admission.Admitted x → first sizes ≡ check.Passed
         → f ≡ bad → b ≡ admitted (first (badRule f ∷ [])) x → b ≡ callAdmission call s sizes bad
     past-setting a b x f e g h q r =
         let t = served-setting a x e g in
@@ -95,7 +95,7 @@ module _ (Q : Admission → Type 0) (call : Call) (s : Setting) (sizes : List Ru
     (of-setting : (r : Refusal) → first (settingRules call s) ≡ check.Refused r → Q (admission.Refused r))
     (of-sizes : (r : Refusal) → first sizes ≡ check.Refused r → Q (admission.Refused r))
     (of-sample : first sizes ≡ check.Passed → (place : Place) → bad ≡ At place → Q (admission.Refused (badAt place)))
-    (of-served : Q (admission.Served (served s)))
+    (of-served : Q (admission.Admitted (served s)))
   where
     by-found : first sizes ≡ check.Passed → (f : Found) → bad ≡ f → Q (admitted (first (badRule f ∷ [])) (served s))
     unfolding first

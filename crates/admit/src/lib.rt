@@ -28,7 +28,7 @@ fn past(served: Served, found: Found) -> Admission
 {
     match found {
         Found::At(place) => Admission::Refused(Refusal::bad_at(place)),
-        Found::Nothing => Admission::Served(served),
+        Found::Nothing => Admission::Admitted(served),
     }
 }
 
@@ -48,7 +48,7 @@ pub fn admit_pixel(call: Call, s: Setting, p: Pixel) -> Admission
     ensures { λ r. ⌜ r ≡ pixelAdmission call s p ⌝ }
 {
     let admission = setting::admission::admit(call, s);
-    let Admission::Served(served) = admission else {
+    let Admission::Admitted(served) = admission else {
         return admission;
     };
     let depths = served.depths;
@@ -82,7 +82,7 @@ pub fn admit_sample(kind: SampleKind, s: Setting, v: u16) -> Admission
     ensures { λ r. ⌜ r ≡ sampleAdmission kind s v ⌝ }
 {
     let admission = setting::admission::admit(Call::Meter, s);
-    let Admission::Served(served) = admission else {
+    let Admission::Admitted(served) = admission else {
         return admission;
     };
     let depths = served.depths;
@@ -104,7 +104,7 @@ pub fn admit_picture(
     ensures { λ r. ⌜ r ≡ pictureAdmission call s (picture width height stride (now (a0 .entry)) (now (a1 .entry)) (now (a2 .entry))) (other ∷ []) ⌝ }
 {
     let admission = setting::admission::admit(call, s);
-    let Admission::Served(served) = admission else {
+    let Admission::Admitted(served) = admission else {
         return admission;
     };
     let own = Layout {

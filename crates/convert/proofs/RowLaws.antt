@@ -8,8 +8,8 @@ use lib.Seq.{ext-getD}
 use Rattle.sample.specs.declared.Pixel.{Pixel}
 use Rattle.planes.specs.Picture.{sampleOf}
 use Rattle.planes.specs.Plane.{tab}
-use Rattle.planes.proofs.Tables.{length-tab, tab-same, tab-at, Filled, filled-none, filled-more, filled-all}
-use Rattle.convert.specs.Row.{pixelIn, converted, rowOf, ConvertedRows, OneWidth}
+use Rattle.planes.proofs.Tables.{length-tab, tab-at, Filled, filled-none, filled-more, filled-all}
+use Rattle.convert.specs.Row.{pixelIn, converted, ConvertedRows, OneWidth}
 
 -- the rows b0, b1, b2 are what f makes of the row a0, a1, a2, as far as index i
 pub record Written (f : Pixel → Pixel) (a0 a1 a2 b0 b1 b2 : List ℕ) (i : ℕ) : Type 0 where
@@ -43,14 +43,6 @@ module _ {f : Pixel → Pixel} {a0 a1 a2 b0 b1 b2 : List ℕ} where
 
   pub written-all : {i : ℕ} → Written f a0 a1 a2 b0 b1 b2 i → i ≡ length a0 → ConvertedRows f a0 a1 a2 b0 b1 b2
   written-all w e = (filled-all _ _ _ _ e (w .row0), (filled-all _ _ _ _ e (w .row1), filled-all _ _ _ _ e (w .row2)))
-
-row-same : (k : ℕ) (f g : Pixel → Pixel) (a0 a1 a2 : List ℕ) → ((p : Pixel) → f p ≡ g p) → rowOf k f a0 a1 a2 ≡ rowOf k g a0 a1 a2
-row-same k f g a0 a1 a2 e = tab-same (length a0) _ _ (λ i h. ap (sampleOf k) (e (pixelIn a0 a1 a2 i)))
-
--- two formulas that agree make the same rows
-pub rows-same : (f g : Pixel → Pixel) (a0 a1 a2 : List ℕ) {b0 b1 b2 : List ℕ} → ((p : Pixel) → f p ≡ g p)
-    → ConvertedRows f a0 a1 a2 b0 b1 b2 → ConvertedRows g a0 a1 a2 b0 b1 b2
-rows-same f g a0 a1 a2 e m = (m .0 ∙ row-same 0 f g a0 a1 a2 e, (m .1 .0 ∙ row-same 1 f g a0 a1 a2 e, m .1 .1 ∙ row-same 2 f g a0 a1 a2 e))
 
 -- a row, read element by element
 pub row-itself : (l : List ℕ) (n : ℕ) → length l ≡ n → l ≡ tab n (λ (i : ℕ). getD l i 0)

@@ -5,7 +5,7 @@ ghost use lib.ListN.{length, set};
 ghost use Rattle.sample.specs.Depth.{InsideRGB};
 ghost use Rattle.ycgco.specs.YCgCo.{lossyForward, lossyReverse, losslessForward, losslessReverse, LossyDepths, LosslessDepths};
 ghost use Rattle.levels.specs.Lines.{lineSample, linesPixel};
-ghost use Rattle.levels.specs.Room.{Ready, AllReady};
+ghost use Rattle.levels.specs.Room.{LineReady, AllReady};
 ghost use Rattle.levels.specs.Conversion.{SamplesFit};
 ghost use Rattle.convert.specs.Row.{pixelIn, rowBy, ConvertedRows, EveryOf, OneWidth};
 use levels::lines::Lines;
@@ -74,7 +74,7 @@ pub fn copy_three(
 
 // One plane by its line.
 fn line_plane(line: ReadyLine, a0: &[u16], a1: &[u16], a2: &[u16], b: &mut [u16])
-    requires { ⌜ Ready line ⌝ }
+    requires { ⌜ LineReady line ⌝ }
     requires { ⌜ length (now a1) ≡ length (now a0) ⌝ }
     requires { ⌜ length (now a2) ≡ length (now a0) ⌝ }
     requires { ⌜ length (now b) ≡ length (now a0) ⌝ }

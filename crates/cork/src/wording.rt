@@ -46,7 +46,7 @@ pub fn expected(e: Expected) {
     }
 }
 
-// What a refusal means, and what to do about it. The last is number 11.
+// What a refusal means, and what to do about it.
 pub fn meaning(n: u8) {
     match n {
         1 => say(
@@ -63,6 +63,7 @@ pub fn meaning(n: u8) {
         ),
         9 => say(b"a plane is too short for its size and stride"),
         10 => say(b"a sample is too large for its depth"),
-        _ => say(b"the meter needs a luma matrix, and the source check a lossless setting"),
+        11 => say(b"the meter needs a luma matrix, and the source check a lossless setting"),
+        _ => say(b"this number has no words here"),
     }
 }

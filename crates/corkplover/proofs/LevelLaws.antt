@@ -16,16 +16,16 @@ use Rattle.meter.specs.declared.SampleKind.the-variants as kind
 use Rattle.meter.proofs.Scales.{level-is-number}
 use Rattle.setting.specs.Ready.{Ready}
 use Rattle.admit.specs.Rules.{pixelAdmission, sampleAdmission}
-use Rattle.admit.proofs.Accepted.{let-in, one-ready}
-use Rattle.corkplover.specs.Answers.{readBy, reading, levelsBy, levelsAnswer}
+use Rattle.admit.proofs.Accepted.{pixel-admitted, one-ready}
+use Rattle.corkplover.specs.Answers.{readBy, reading, levelsReadBy, levelsAnswer}
 use Rattle.corkplover.specs.declared.meters.Reading.the-variants as meter
 use Rattle.corkplover.specs.declared.meters.LevelsAnswer.the-variants as levels
 
 level-fine : (k : SampleKind) (y : Served) (v : ℕ) → v ≤ 65536 → Ready y → IsNumber (levelOf k (y .«ycc_full») (y .depths .luma) (y .depths .chroma) v)
 level-fine k y v h r = level-is-number k (y .«ycc_full») (y .depths .luma) (y .depths .chroma) (r .three .luma) (r .three .chroma) v h
 
-read-of : (k : SampleKind) (v : ℕ) (d : Admission) (x : Float) → v ≤ 65536 → ((y : Served) → d ≡ admission.Served y → Ready y) → readBy k v d ≡ meter.Level x → IsNumber x
-read-of k v (admission.Served y) x h r e =
+read-of : (k : SampleKind) (v : ℕ) (d : Admission) (x : Float) → v ≤ 65536 → ((y : Served) → d ≡ admission.Admitted y → Ready y) → readBy k v d ≡ meter.Level x → IsNumber x
+read-of k v (admission.Admitted y) x h r e =
     let q : levelOf k (y .«ycc_full») (y .depths .luma) (y .depths .chroma) v ≡ x = cc in
     subst IsNumber q (level-fine k y v h (r y refl))
 read-of k v (admission.Refused n) x h r e = absurd (true≢false cc)
@@ -34,10 +34,10 @@ pub reading-is-number : (k : SampleKind) (s : Setting) (v : ℕ) (x : Float) →
 unfolding reading
 reading-is-number k s v x h e = read-of k v (sampleAdmission k s v) x h (one-ready k s v) e
 
-levels-of : (p : Pixel) (d : Admission) (l : PixelLevels) → p .p0 ≤ 65536 → p .p1 ≤ 65536 → p .p2 ≤ 65536 → ((y : Served) → d ≡ admission.Served y → Ready y)
-    → levelsBy p d ≡ levels.Levels l → AreNumbers l
+levels-of : (p : Pixel) (d : Admission) (l : PixelLevels) → p .p0 ≤ 65536 → p .p1 ≤ 65536 → p .p2 ≤ 65536 → ((y : Served) → d ≡ admission.Admitted y → Ready y)
+    → levelsReadBy p d ≡ levels.Levels l → AreNumbers l
 unfolding levelsOf
-levels-of p (admission.Served y) l h0 h1 h2 r e =
+levels-of p (admission.Admitted y) l h0 h1 h2 r e =
     let q : levelsOf (y .«ycc_full») (y .depths .luma) (y .depths .chroma) p ≡ l = cc in
     subst AreNumbers q
     (level-fine kind.Y y (p .p0) h0 (r y refl), (level-fine kind.Cb y (p .p1) h1 (r y refl), level-fine kind.Cr y (p .p2) h2 (r y refl)))
@@ -46,4 +46,4 @@ levels-of p (admission.Refused n) l h0 h1 h2 r e = absurd (true≢false cc)
 pub levels-are-numbers : (s : Setting) (p : Pixel) (l : PixelLevels) → p .p0 ≤ 65536 → p .p1 ≤ 65536 → p .p2 ≤ 65536 → levelsAnswer s p ≡ levels.Levels l
     → AreNumbers l
 unfolding levelsAnswer
-levels-are-numbers s p l h0 h1 h2 e = levels-of p (pixelAdmission call.Meter s p) l h0 h1 h2 (λ y q. let-in call.Meter s p y q .is-ready) e
+levels-are-numbers s p l h0 h1 h2 e = levels-of p (pixelAdmission call.Meter s p) l h0 h1 h2 (λ y q. pixel-admitted call.Meter s p y q .is-ready) e

@@ -23,7 +23,7 @@ use Rattle.corkplover.specs.declared.meters.LevelsAnswer.the-variants as
 
 -- a pixel either way
 abbrev pub convertedBy : Way → Pixel → Admission → PixelAnswer
-convertedBy w p (admission.Served x) = pixel.Converted (convert w x p)
+convertedBy w p (admission.Admitted x) = pixel.Converted (convert w x p)
 convertedBy w p (admission.Refused r) = pixel.Refused r
 
 unfoldable pub pixelAnswer : Way → Setting → Pixel → PixelAnswer
@@ -31,7 +31,7 @@ pixelAnswer w s p = convertedBy w p (pixelAdmission (call.Convert w) s p)
 
 -- the source check of a pixel
 abbrev pub sourceBy : Pixel → Admission → SourceAnswer
-sourceBy p (admission.Served x) = cond (hasSource x p) source.Yes source.NoSource
+sourceBy p (admission.Admitted x) = cond (hasSource x p) source.Yes source.NoSource
 sourceBy p (admission.Refused r) = source.Refused r
 
 unfoldable pub sourceAnswer : Setting → Pixel → SourceAnswer
@@ -39,15 +39,15 @@ sourceAnswer s p = sourceBy p (pixelAdmission call.ImageCheck s p)
 
 -- the meter, of one sample and of a pixel
 abbrev pub readBy : SampleKind → ℕ → Admission → Reading
-readBy k v (admission.Served x) = meter.Level (levelOf k (x .«ycc_full») (x .depths .luma) (x .depths .chroma) v)
+readBy k v (admission.Admitted x) = meter.Level (levelOf k (x .«ycc_full») (x .depths .luma) (x .depths .chroma) v)
 readBy k v (admission.Refused r) = meter.Refused r
 
 unfoldable pub reading : SampleKind → Setting → ℕ → Reading
 reading k s v = readBy k v (sampleAdmission k s v)
 
-abbrev pub levelsBy : Pixel → Admission → LevelsAnswer
-levelsBy p (admission.Served x) = levels.Levels (levelsOf (x .«ycc_full») (x .depths .luma) (x .depths .chroma) p)
-levelsBy p (admission.Refused r) = levels.Refused r
+abbrev pub levelsReadBy : Pixel → Admission → LevelsAnswer
+levelsReadBy p (admission.Admitted x) = levels.Levels (levelsOf (x .«ycc_full») (x .depths .luma) (x .depths .chroma) p)
+levelsReadBy p (admission.Refused r) = levels.Refused r
 
 unfoldable pub levelsAnswer : Setting → Pixel → LevelsAnswer
-levelsAnswer s p = levelsBy p (pixelAdmission call.Meter s p)
+levelsAnswer s p = levelsReadBy p (pixelAdmission call.Meter s p)

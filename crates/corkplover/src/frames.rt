@@ -22,7 +22,9 @@ pub fn forward_frame(
     cb: &mut [u16],
     cr: &mut [u16],
 ) -> FrameAnswer
-    ensures { λ x. ⌜ FrameAfter Forward s (inputPicture size (now (r .entry)) (now (g .entry)) (now (b .entry))) (outputLayout size (length (now (y .entry))) (length (now (cb .entry))) (length (now (cr .entry)))) x (now (y .exit)) (now (cb .exit)) (now (cr .exit)) ⌝ }
+    ensures { λ x. ⌜ FrameAfter Forward s (inputPicture size (now (r .entry)) (now (g .entry)) (now (b .entry)))
+        (outputLayout size (length (now (y .entry))) (length (now (cb .entry))) (length (now (cr .entry))))
+        x (now (y .exit)) (now (cb .exit)) (now (cr .exit)) ⌝ }
 {
     frame::convert_frame(Way::Forward, s, size, r, g, b, y, cb, cr)
 }
@@ -38,7 +40,9 @@ pub fn reverse_frame(
     g: &mut [u16],
     b: &mut [u16],
 ) -> FrameAnswer
-    ensures { λ x. ⌜ FrameAfter Reverse s (inputPicture size (now (y .entry)) (now (cb .entry)) (now (cr .entry))) (outputLayout size (length (now (r .entry))) (length (now (g .entry))) (length (now (b .entry)))) x (now (r .exit)) (now (g .exit)) (now (b .exit)) ⌝ }
+    ensures { λ x. ⌜ FrameAfter Reverse s (inputPicture size (now (y .entry)) (now (cb .entry)) (now (cr .entry)))
+        (outputLayout size (length (now (r .entry))) (length (now (g .entry))) (length (now (b .entry))))
+        x (now (r .exit)) (now (g .exit)) (now (b .exit)) ⌝ }
 {
     frame::convert_frame(Way::Reverse, s, size, y, cb, cr, r, g, b)
 }

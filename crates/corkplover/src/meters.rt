@@ -25,7 +25,7 @@ pub fn meter_sample(kind: SampleKind, s: Setting, v: u16) -> Reading
 {
     match admit::admit_sample(kind, s, v) {
         Admission::Refused(refusal) => Reading::Refused(refusal),
-        Admission::Served(served) => {
+        Admission::Admitted(served) => {
             let depths = served.depths;
             let full = served.ycc_full;
             Reading::Level(meter::level_of(kind, full, depths.luma, depths.chroma, v))
@@ -39,7 +39,7 @@ pub fn meter_pixel(s: Setting, p: Pixel) -> LevelsAnswer
 {
     match admit::admit_pixel(Call::Meter, s, p) {
         Admission::Refused(refusal) => LevelsAnswer::Refused(refusal),
-        Admission::Served(served) => {
+        Admission::Admitted(served) => {
             let depths = served.depths;
             let full = served.ycc_full;
             LevelsAnswer::Levels(meter::levels_of(full, depths.luma, depths.chroma, p))

@@ -25,7 +25,7 @@ fn convert_pixel(way: Way, s: Setting, p: Pixel) -> PixelAnswer
 {
     match admit::admit_pixel(Call::Convert(way), s, p) {
         Admission::Refused(refusal) => PixelAnswer::Refused(refusal),
-        Admission::Served(served) => {
+        Admission::Admitted(served) => {
             let plan = plan::plan_of(way, served);
             PixelAnswer::Converted(convert::pixel(plan, p))
         }
@@ -52,7 +52,7 @@ pub fn source_pixel(s: Setting, p: Pixel) -> SourceAnswer
 {
     match admit::admit_pixel(Call::ImageCheck, s, p) {
         Admission::Refused(refusal) => SourceAnswer::Refused(refusal),
-        Admission::Served(served) => {
+        Admission::Admitted(served) => {
             let back = plan::plan_of(Way::Reverse, served);
             let forth = plan::plan_of(Way::Forward, served);
             if convert::comes_back(back, forth, p) {

@@ -25,7 +25,7 @@ use Rattle.frame.specs.declared.FrameAnswer.the-variants.{Done, Refused}
 
 module _ (way : Way) (s : Setting) (a : Picture) (b : Layout) where
   -- a call that nothing refuses
-  module _ (x : Served) (e : frameAdmission way s a b ≡ admission.Served x) where
+  module _ (x : Served) (e : frameAdmission way s a b ≡ admission.Admitted x) where
     pub done : frameAnswer way s a b ≡ Done
     unfolding frameAnswer
     done = rw e
@@ -49,25 +49,25 @@ module _ (way : Way) (s : Setting) (a : Picture) (b : Layout) where
     zeroed z = (sym refused, (z .0 ∙ sym (plane-refused 0), (z .1 .0 ∙ sym (plane-refused 1), z .1 .1 ∙ sym (plane-refused 2))))
 
 -- a call was let in, with x served
-pub record LetIn (way : Way) (s : Setting) (a : Picture) (b : Layout) (x : Served) : Type 0 where
-  pub told : frameAdmission way s a b ≡ admission.Served x
+pub record FrameAdmitted (way : Way) (s : Setting) (a : Picture) (b : Layout) (x : Served) : Type 0 where
+  pub is-admitted : frameAdmission way s a b ≡ admission.Admitted x
 
-module _ {way : Way} {s : Setting} {a : Picture} {b : Layout} {x : Served} (l : LetIn way s a b x) where
+module _ {way : Way} {s : Setting} {a : Picture} {b : Layout} {x : Served} (l : FrameAdmitted way s a b x) where
   pub all-ready : Ready x
-  all-ready = let k = accepted-of (Convert way) s _ _ x (l .told) in subst Ready (k .1) (is-ready _ _ _ _ (k .0))
+  all-ready = let k = accepted-of (Convert way) s _ _ x (l .is-admitted) in subst Ready (k .1) (is-ready _ _ _ _ (k .0))
 
   -- it is painted by a plan of the conversion
   module _ {plan : Plan} (h : Plans (convert way x) (inputOf way) (x .depths) plan) where
     pub paintable : Roomy plan × (Fits (a .width) (a .height) (layoutOf a) × (Fits (a .width) (a .height) b × EveryPixel (Takes plan) a))
     paintable =
-        let k = accepted-of (Convert way) s _ _ x (l .told) in
+        let k = accepted-of (Convert way) s _ _ x (l .is-admitted) in
         let f = all-fit (Convert way) s a (b ∷ []) (k .0) in
         let inside = subst (λ (y : Served). EveryPixel (InsideOf (inputOf way) (y .depths)) a) (k .1) (pixels-inside (Convert way) s a (b ∷ []) (k .0)) in
         (h .roomy, (f .0, (f .1 .0, λ j i p q. h .takes _ (inside j i p q))))
 
     made : (k : ℕ) {q : List ℕ} → q ≡ madePlane k (planned plan) a (b .stride) (lengthOf k b) → q ≡ outPlane k way s a b
     made k m =
-        m ∙ plane-same _ _ _ _ _ _ (λ j i _ _. ap (sampleOf k) (h .is (pixelOf a j i))) ∙ sym (plane-done way s a b x (l .told) k)
+        m ∙ plane-same _ _ _ _ _ _ (λ j i _ _. ap (sampleOf k) (h .is (pixelOf a j i))) ∙ sym (plane-done way s a b x (l .is-admitted) k)
 
     pub painted : {q0 q1 q2 : List ℕ} → MadePlanes (planned plan) a b q0 q1 q2 → FrameAfter way s a b Done q0 q1 q2
-    painted m = (sym (done way s a b x (l .told)), (made 0 (m .0), (made 1 (m .1 .0), made 2 (m .1 .1))))
+    painted m = (sym (done way s a b x (l .is-admitted)), (made 0 (m .0), (made 1 (m .1 .0), made 2 (m .1 .1))))

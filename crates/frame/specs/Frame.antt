@@ -34,7 +34,7 @@ abbrev pub frameAdmission : Way → Setting → Picture → Layout → Admission
 frameAdmission way s a b = pictureAdmission (Convert way) s a (b ∷ [])
 
 abbrev pub frameBy : Admission → FrameAnswer
-frameBy (admission.Served x) = Done
+frameBy (admission.Admitted x) = Done
 frameBy (admission.Refused r) = Refused r
 
 -- THE answer of a conversion
@@ -54,7 +54,7 @@ convertedPlane k way x a stride n = madePlane k (convert way x) a stride n
 
 -- the converted plane where nothing refuses, and else zeros
 abbrev pub planeBy : Admission → ℕ → Way → Picture → ℕ → ℕ → List ℕ
-planeBy (admission.Served x) k way a stride n = convertedPlane k way x a stride n
+planeBy (admission.Admitted x) k way a stride n = convertedPlane k way x a stride n
 planeBy (admission.Refused r) k way a stride n = zeros n
 
 -- how many elements plane k of a layout has

@@ -51,7 +51,7 @@ pub fn convert_frame(
         n2: b2.len(),
     };
     match admit::admit_picture(call, s, width, height, input_stride, output, a0, a1, a2) {
-        Admission::Served(served) => {
+        Admission::Admitted(served) => {
             paint::paint(plan::plan_of(way, served), size, a0, a1, a2, b0, b1, b2);
             FrameAnswer::Done
         }

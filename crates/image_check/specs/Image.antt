@@ -30,7 +30,7 @@ answerFound (found.At place) = NoSource place
 answerFound found.Nothing = Yes
 
 abbrev pub imageBy : Admission → Picture → ImageAnswer
-imageBy (admission.Served x) a = answerFound (firstFailing (hasSource x) a)
+imageBy (admission.Admitted x) a = answerFound (firstFailing (hasSource x) a)
 imageBy (admission.Refused r) a = Refused r
 
 -- THE answer of the image check

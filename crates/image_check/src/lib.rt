@@ -86,7 +86,7 @@ pub fn image_check(
     };
     match admit::admit_picture(Call::ImageCheck, s, width, height, stride, own, a0, a1, a2) {
         Admission::Refused(refusal) => ImageAnswer::Refused(refusal),
-        Admission::Served(served) => {
+        Admission::Admitted(served) => {
             let back = plan::plan_of(Way::Reverse, served);
             let forth = plan::plan_of(Way::Forward, served);
             match first_sourceless(back, forth, width, height, stride, a0, a1, a2) {

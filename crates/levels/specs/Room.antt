@@ -54,20 +54,20 @@ pub record Room (l : Line) : Type 0 where
   pub top-in : l .top ≤ mostSample
 
 -- with what stands for its divisor, which is twice its denominator; and three such lines
-pub record Ready (l : ReadyLine) : Type 0 where
+pub record LineReady (l : ReadyLine) : Type 0 where
   pub room : Room (l .line)
   pub divides : Divides (l .by)
   pub twice : l .by .over ≡ 2 * l .line .equation .over
 
 pub record AllReady (l : Lines) : Type 0 where
-  pub first : Ready (l .first)
-  pub second : Ready (l .second)
-  pub third : Ready (l .third)
+  pub first : LineReady (l .first)
+  pub second : LineReady (l .second)
+  pub third : LineReady (l .third)
 
 -- the ready line of an equation, and those of three
 pub record Lined (w : Equation) (from : Readers) (to : Writer) (l : ReadyLine) : Type 0 where
   pub is : l .line ≡ lineOf w from to
-  pub ready : Ready l
+  pub ready : LineReady l
 
 pub record Prepared (e : Equations) (from : Readers) (light colour : Writer) (l : Lines) : Type 0 where
   pub first : Lined (e .first) from light (l .first)

@@ -5,11 +5,11 @@ use sample::Pixel;
 ghost use mathlib.Core.Path.{_≡_};
 ghost use Rattle.levels.specs.Conversion.{SamplesFit};
 ghost use Rattle.levels.specs.Lines.{lineSample, linesPixel};
-ghost use Rattle.levels.specs.Room.{Ready, AllReady};
+ghost use Rattle.levels.specs.Room.{LineReady, AllReady};
 
 // One sample by its line. All kinds of sample come from here.
 pub fn sample_of(l: ReadyLine, p: Pixel) -> u16
-    requires { ⌜ Ready l ⌝ }
+    requires { ⌜ LineReady l ⌝ }
     requires { ⌜ SamplesFit p ⌝ }
     ensures { λ r. ⌜ r ≡ lineSample (l .line) p ⌝ }
 {

@@ -54,7 +54,7 @@ pub struct Readers {
 }
 
 // What a scale takes away is added again: before Round where the range is narrow, after it where it is full.
-pub fn writer_of(full: bool, s: Scale, depth: u8) -> Writer
+pub(crate) fn writer_of(full: bool, s: Scale, depth: u8) -> Writer
     requires { ⌜ Depth depth ⌝ }
     ensures { λ r. ⌜ r ≡ writerOf full s depth ⌝ }
 {
@@ -78,7 +78,7 @@ pub fn writer_of(full: bool, s: Scale, depth: u8) -> Writer
 }
 
 // R, G and B have one scale.
-pub fn readers_of_rgb(s: Scale) -> Readers
+pub(crate) fn readers_of_rgb(s: Scale) -> Readers
     ensures { λ r. ⌜ r ≡ readersOfRgb s ⌝ }
 {
     let times = s.times;
@@ -92,7 +92,7 @@ pub fn readers_of_rgb(s: Scale) -> Readers
 }
 
 // Y has one scale and both chroma samples another: each is brought over the product of the two.
-pub fn readers_of_ycc(luma: Scale, chroma: Scale) -> Readers
+pub(crate) fn readers_of_ycc(luma: Scale, chroma: Scale) -> Readers
     requires { ⌜ ScaleFits luma ⌝ }
     requires { ⌜ ScaleFits chroma ⌝ }
     ensures { λ r. ⌜ r ≡ readersOfYcc luma chroma ⌝ }
@@ -197,7 +197,7 @@ fn ready_line(w: Equation, from: Readers, to: Writer) -> ReadyLine
 }
 
 // The lines of three equations, the first into one plane and the others into two alike.
-pub fn lines_of(e: Equations, from: Readers, light: Writer, colour: Writer) -> Lines
+pub(crate) fn lines_of(e: Equations, from: Readers, light: Writer, colour: Writer) -> Lines
     requires { ⌜ LineFits (e .first) from light ⌝ }
     requires { ⌜ LineFits (e .second) from colour ⌝ }
     requires { ⌜ LineFits (e .third) from colour ⌝ }

@@ -47,7 +47,7 @@ no-bad side d p h =
 
 -- a call on such a pixel is let in where no rule refuses its setting
 pub pixel-served : (c : Call) (s : Setting) (p : Pixel) → first (settingRules c s) ≡ Passed → InsideOf (reads c) (depths s) p
-    → pixelAdmission c s p ≡ admission.Served (served s)
+    → pixelAdmission c s p ≡ admission.Admitted (served s)
 unfolding first
 pixel-served c s p e h = of-accepted c s [] _ (record { setting = e; sizes-pass = refl; samples = no-bad (reads c) (depths s) p h })
 

@@ -37,17 +37,17 @@ use Rattle.image_check.specs.Image as image
 
 -- ---- every element
 
--- a verdict that was answered by Done, and by a refusal
-record ServedBy (v : Admission) : Type 0 where
-  by : Served
-  is : v ≡ admission.Served by
+-- a call that was admitted, such as one that was answered by Done, and one that was refused
+pub record AdmittedAs (v : Admission) : Type 0 where
+  pub by : Served
+  pub is : v ≡ admission.Admitted by
 
-done-served : (v : Admission) → frameBy v ≡ Done → ServedBy v
-done-served (admission.Served x) e = record { by = x; is = refl }
-done-served (admission.Refused r) e = absurd (true≢false cc)
+done-admitted : (v : Admission) → frameBy v ≡ Done → AdmittedAs v
+done-admitted (admission.Admitted x) e = record { by = x; is = refl }
+done-admitted (admission.Refused r) e = absurd (true≢false cc)
 
 pub frame-refused : (v : Admission) (r : Refusal) → frameBy v ≡ Refused r → v ≡ admission.Refused r
-frame-refused (admission.Served x) r e = absurd (true≢false cc)
+frame-refused (admission.Admitted x) r e = absurd (true≢false cc)
 frame-refused (admission.Refused q) r e = let f : q ≡ r = cc in ap admission.Refused f
 
 -- an element inside the picture is an element of the plane
@@ -55,17 +55,17 @@ pub index-inside : (width height stride j i : ℕ) → j < height → i < width 
 index-inside width height stride j i a b = omega (arith, mul-le-mul-right {m = j} {n = height - 1} stride (omega arith))
 
 module _ (w : Way) (s : Setting) (a : Picture) (b : Layout) where
-  -- Done exactly if no row applies
+  -- Done exactly if no rule applies
   pub frame-done : (frameAnswer w s a b ≡ Done) ↔ PictureAccepted (call.Convert w) s a (b ∷ [])
   unfolding frameAnswer
   frame-done = (
-    λ e. let x = done-served (frameAdmission w s a b) e in accepted-of (call.Convert w) s _ _ (x .by) (x .is) .0,
+    λ e. let x = done-admitted (frameAdmission w s a b) e in accepted-of (call.Convert w) s _ _ (x .by) (x .is) .0,
     λ k. ap frameBy (of-accepted (call.Convert w) s _ _ k),
   )
 
   -- after any call the plane is as long as before
   by-length : (k : ℕ) (v : Admission) → length (planeBy v k w a (b .stride) (lengthOf k b)) ≡ lengthOf k b
-  by-length k (admission.Served x) = plane-length (lengthOf k b) (a .width) (a .height) (b .stride) _
+  by-length k (admission.Admitted x) = plane-length (lengthOf k b) (a .width) (a .height) (b .stride) _
   by-length k (admission.Refused r) = length-tab (lengthOf k b) _
 
   pub frame-length : (k : ℕ) → length (outPlane k w s a b) ≡ lengthOf k b
@@ -142,7 +142,7 @@ module _ (a : Picture) (q0 q1 q2 : List ℕ) (e : Alike a q0 q1 q2) where
   same-answer w s b = ap frameBy (same-admission (call.Convert w) s (b ∷ []))
 
   by-same : (k : ℕ) (w : Way) (stride n : ℕ) (v : Admission) → planeBy v k w a stride n ≡ planeBy v k w (withPlanes a q0 q1 q2) stride n
-  by-same k w stride n (admission.Served x) =
+  by-same k w stride n (admission.Admitted x) =
       plane-same n (a .width) (a .height) stride _ _ (λ j i h l. ap (λ p. sampleOf k (convert w x p)) (pixels j i h l))
   by-same k w stride n (admission.Refused r) = refl
 
@@ -156,7 +156,7 @@ module _ (a : Picture) (q0 q1 q2 : List ℕ) (e : Alike a q0 q1 q2) where
   found-same x = first-place-same (fails (hasSource x) a) (fails (hasSource x) (withPlanes a q0 q1 q2)) 0 (a .width) (a .height) (λ j i h l. rw (pixels j i h l))
 
   image-by-same : (v : Admission) → image.imageBy v a ≡ image.imageBy v (withPlanes a q0 q1 q2)
-  image-by-same (admission.Served x) = ap answerFound (found-same x)
+  image-by-same (admission.Admitted x) = ap answerFound (found-same x)
   image-by-same (admission.Refused r) = refl
 
   pub same-image : (s : Setting) → imageAnswer s a ≡ imageAnswer s (withPlanes a q0 q1 q2)

@@ -26,7 +26,6 @@ use Rattle.setting.specs.declared.Call.the-variants.{ImageCheck}
 use Rattle.setting.specs.declared.Setting.{Setting}
 use Rattle.setting.specs.declared.admission.Admission.{Admission}
 use Rattle.setting.specs.declared.admission.Admission.the-variants as admission
-use Rattle.setting.specs.declared.admission.Served.{Served}
 use Rattle.plan.specs.Conversion.{convert}
 use Rattle.plan.specs.Source.{HasSource, hasSource}
 use Rattle.setting.specs.declared.Way.the-variants.{Forward, Reverse}
@@ -40,7 +39,7 @@ use Rattle.image_check.specs.declared.ImageAnswer.the-variants.{Yes, NoSource}
 use Rattle.corkplover.specs.Meaning.{meaningOfImage}
 use Rattle.promises.proofs.Refusals.{found-number, not-refused}
 use Rattle.promises.proofs.Lossless.{source-exactly}
-use Rattle.promises.proofs.Frames.{index-inside}
+use Rattle.promises.proofs.Frames.{AdmittedAs, index-inside}
 
 -- an RGB picture within depth that converts to a by the forward formulas
 pub record SourcePicture (s : Setting) (a : Picture) : Type 0 where
@@ -61,21 +60,17 @@ none-found : (f : Found) (place : Place) → answerFound f ≡ NoSource place �
 none-found (found.At q) place e = let g : q ≡ place = cc in ap found.At g
 none-found found.Nothing place e = absurd (true≢false cc)
 
--- an answer that is no refusal was let in
-record LetIn (v : Admission) : Type 0 where
-  by : Served
-  is : v ≡ admission.Served by
-
-let-in : (v : Admission) (a : Picture) → ((r : Refusal) → v ≡ admission.Refused r → r .number ≡ 0 → ⊥) → meaningOfImage (imageBy v a) .number ≡ 0 → LetIn v
-let-in (admission.Served x) a h e = record { by = x; is = refl }
-let-in (admission.Refused r) a h e = absurd (h r refl e)
+-- an answer that is no refusal was admitted
+not-refused-admitted : (v : Admission) (a : Picture) → ((r : Refusal) → v ≡ admission.Refused r → r .number ≡ 0 → ⊥) → meaningOfImage (imageBy v a) .number ≡ 0 → AdmittedAs v
+not-refused-admitted (admission.Admitted x) a h e = record { by = x; is = refl }
+not-refused-admitted (admission.Refused r) a h e = absurd (h r refl e)
 
 -- the image check is not refused exactly if no rule applies
 pub image-accepted : (s : Setting) (a : Picture) → (meaningOfImage (imageAnswer s a) .number ≡ 0) ↔ PictureAccepted ImageCheck s a []
 unfolding imageAnswer
 image-accepted s a = (
   λ e.
-      let x = let-in (pictureAdmission ImageCheck s a []) a (not-refused ImageCheck s _ _ (refl, (refl, tt))) e in
+      let x = not-refused-admitted (pictureAdmission ImageCheck s a []) a (not-refused ImageCheck s _ _ (refl, (refl, tt))) e in
       accepted-of ImageCheck s _ _ (x .by) (x .is) .0,
   λ k. ap (λ v. meaningOfImage (imageBy v a) .number) (of-accepted ImageCheck s _ _ k) ∙ found-number (firstFailing (hasSource (served s)) a),
 )

@@ -38,7 +38,7 @@ use Rattle.admit.specs.Rules.{callAdmission, pixelPicture, topOf}
 use Rattle.admit.proofs.AdmitLaws.{each-answer}
 use Rattle.frame.specs.Frame.{frameBy, frameAnswer}
 use Rattle.image_check.specs.Image.{firstFailing, imageBy, imageAnswer}
-use Rattle.corkplover.specs.Answers.{convertedBy, pixelAnswer, sourceBy, sourceAnswer, readBy, reading, levelsBy, levelsAnswer}
+use Rattle.corkplover.specs.Answers.{convertedBy, pixelAnswer, sourceBy, sourceAnswer, readBy, reading, levelsReadBy, levelsAnswer}
 use Rattle.corkplover.specs.Meaning.{Meaning, meaningRefusal, meaningOfPixel, meaningOfSource, meaningOfReading, meaningOfLevels, meaningOfFrame, meaningOfImage}
 use Rattle.promises.proofs.Refusals.{picked-number, found-number}
 
@@ -65,7 +65,7 @@ setting-others c s =
 pub size-others : (width height : ℕ) (layouts : List Layout) → EveryRule Other (sizeRules width height layouts)
 size-others width height layouts = (record { not-10 = refl; no-place = refl }, (record { not-10 = refl; no-place = refl }, tt))
 
-module _ (say : Admission → Meaning) (free : (x : Served) → say (admission.Served x) .number ≡ 0)
+module _ (say : Admission → Meaning) (free : (x : Served) → say (admission.Admitted x) .number ≡ 0)
     (refuses : (r : Refusal) → say (admission.Refused r) ≡ meaningRefusal r) (Bad : Place → Type 0) (c : Call) (s : Setting) (sizes : List Rule)
     (h : EveryRule Other sizes) (bad : Found) (means : (place : Place) → bad ≡ found.At place → Bad place)
   where
@@ -113,7 +113,7 @@ source-places s p =
 pub levels-places : (s : Setting) (p : Pixel) → NamesPlace (BadPixel Ycc s p) (meaningOfLevels (levelsAnswer s p))
 unfolding levelsAnswer
 levels-places s p =
-    names-place (λ v. meaningOfLevels (levelsBy p v)) (λ x. refl) (λ r. refl) _ call.Meter s [] tt _
+    names-place (λ v. meaningOfLevels (levelsReadBy p v)) (λ x. refl) (λ r. refl) _ call.Meter s [] tt _
     (λ place e. at-in-planes-means (pixelPicture p) _ place .0 e)
 
 pub reading-places : (k : SampleKind) (s : Setting) (v : ℕ) → NamesPlace (BadSampleOf k s v) (meaningOfReading (reading k s v))

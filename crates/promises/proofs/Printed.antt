@@ -1,7 +1,6 @@
 -- Demand 2 on the luma matrices: what the box converts by is the printed formulas, (42) to (44) and their solution, with the weights that
--- the standard gives each code.
-use mathlib.Core.Path.{_≡_, refl, ap, _∙_, subst}
-use mathlib.Core.List.{List, [], _∷_}
+-- the table of matrices gives the code.
+use mathlib.Core.Path.{_≡_, ap, _∙_, subst}
 use Prim.Native.Nat.{ℕ, _+_, _<_}
 use Rattle.sample.specs.declared.Pixel.{Pixel}
 use Rattle.refusal.specs.Rules.{first}
@@ -23,18 +22,9 @@ use Rattle.setting.specs.declared.matrix.Matrix.the-variants as matrix
 use Rattle.setting.proofs.ReadyLaws.{ready}
 use Rattle.plan.specs.Conversion.{convertBy, convert}
 
--- what codes mean, and luma matrices by their KR and KB in ten-thousandths
-abbrev meanings : List ℕ → List Matrix
-meanings [] = []
-meanings (n ∷ ns) = matrixOf n ∷ meanings ns
-
+-- a luma matrix by its KR and KB in ten-thousandths, as the table of matrices has it for its code
 abbrev luma : ℕ → ℕ → Matrix
 luma kr kb = matrix.Served (lumaEntry kr kb)
-
--- the codes of the luma matrices, with their weights
-pub luma-codes : meanings (1 ∷ 4 ∷ 5 ∷ 6 ∷ 7 ∷ 9 ∷ []) ≡ luma 2126 722 ∷ luma 3000 1100 ∷ luma 2990 1140 ∷ luma 2990 1140 ∷ luma 2120 870 ∷ luma 2627 593 ∷ []
-unfolding matrixOf
-luma-codes = refl
 
 module _ (s : Setting) (kr kb : ℕ) (h : kr + kb < allParts) (e : matrixOf (s .matrix) ≡ luma kr kb) where
   formulas-are : entry s .formulas ≡ Levels (lumaMatrix (weights kr kb))

@@ -30,10 +30,10 @@ use Rattle.planes.specs.declared.search.Found.the-variants as found
 use Rattle.planes.specs.declared.size.Layout.{Layout}
 use Rattle.plan.specs.Source.{hasSource}
 use Rattle.admit.specs.Rules.{callRules, callAdmission, pictureRules, pixelRules, sampleRules}
-use Rattle.admit.proofs.AdmitLaws.{told-refused}
+use Rattle.admit.proofs.AdmitLaws.{refused-by}
 use Rattle.frame.specs.Frame.{frameBy, frameAnswer}
 use Rattle.image_check.specs.Image.{firstFailing, answerFound, imageBy, imageAnswer}
-use Rattle.corkplover.specs.Answers.{convertedBy, pixelAnswer, sourceBy, sourceAnswer, readBy, reading, levelsBy, levelsAnswer}
+use Rattle.corkplover.specs.Answers.{convertedBy, pixelAnswer, sourceBy, sourceAnswer, readBy, reading, levelsReadBy, levelsAnswer}
 use Rattle.corkplover.specs.Meaning.{Meaning, meaningRefusal, meaningOfPixel, meaningOfSource, meaningOfReading, meaningOfLevels, meaningOfFrame, meaningOfImage}
 use Rattle.corkplover.specs.declared.pixels.SourceAnswer.the-variants as source
 
@@ -68,7 +68,7 @@ all-numbered call s sizes bad h = (refl, (refl, (refl, (refl, (refl, (refl, (ref
     rest (r ∷ rs) h = (h .0, rest rs (h .1))
 
 -- an answer that says of every refusal what it is, and of nothing else that it is one
-module _ (say : Admission → Meaning) (free : (x : Served) → say (admission.Served x) .number ≡ 0)
+module _ (say : Admission → Meaning) (free : (x : Served) → say (admission.Admitted x) .number ≡ 0)
     (refuses : (r : Refusal) → say (admission.Refused r) ≡ meaningRefusal r)
   where
     by-check : (rules : List Rule) (x : Served) → Numbered rules → (c : Check) → first rules ≡ c → Exactly (say (admitted c x)) rules
@@ -97,7 +97,7 @@ pub not-refused : (call : Call) (s : Setting) (sizes : List Rule) (bad : Found) 
     → callAdmission call s sizes bad ≡ admission.Refused r → r .number ≡ 0 → ⊥
 unfolding callAdmission
 not-refused call s sizes bad h r e =
-    not-zero (callRules call s sizes bad) r (all-numbered call s sizes bad h) (told-refused (first (callRules call s sizes bad)) (served s) r e)
+    not-zero (callRules call s sizes bad) r (all-numbered call s sizes bad h) (refused-by (first (callRules call s sizes bad)) (served s) r e)
 
 -- the source checks' word is no refusal
 pub picked-number : (b : Bool) → meaningOfSource (cond b source.Yes source.NoSource) .number ≡ 0
@@ -126,7 +126,7 @@ reading-refusals k s v = exactly (λ d. meaningOfReading (readBy k v d)) (λ x. 
 
 pub levels-refusals : (s : Setting) (p : Pixel) → Exactly (meaningOfLevels (levelsAnswer s p)) (pixelRules call.Meter s p)
 unfolding levelsAnswer
-levels-refusals s p = exactly (λ v. meaningOfLevels (levelsBy p v)) (λ x. refl) (λ r. refl) call.Meter s [] _ tt
+levels-refusals s p = exactly (λ v. meaningOfLevels (levelsReadBy p v)) (λ x. refl) (λ r. refl) call.Meter s [] _ tt
 
 -- Frames: rules 1 to 7, 8 and 9 on both kinds of planes, then 10.
 pub frame-refusals : (w : Way) (s : Setting) (a : Picture) (b : Layout) → Exactly (meaningOfFrame (frameAnswer w s a b)) (pictureRules (call.Convert w) s a (b ∷ []))

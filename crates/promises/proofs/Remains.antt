@@ -1,4 +1,4 @@
--- Nothing of an earlier client remains, and no padding matters: two calls whose source planes agree in length and inside the picture, and
+-- Nothing of an earlier client remains, and no padding matters: two calls whose input planes agree in length and inside the picture, and
 -- whose output planes o and p have the same lengths, whatever those held, leave the same. `FrameAfter` is what the contracts say.
 use mathlib.Core.Path.{_≡_, _∙_, subst}
 use mathlib.Core.List.{List}

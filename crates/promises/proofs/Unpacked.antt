@@ -36,7 +36,7 @@ use Rattle.setting.proofs.ReadyLaws.{ready}
 use Rattle.plan.proofs.ConversionTheorems.{forward-inside, reverse-inside}
 use Rattle.admit.specs.Rules.{callAdmission, beyondDepth, pixelPicture, topOf, badOne}
 use Rattle.admit.proofs.AdmitLaws.{each-answer}
-use Rattle.corkplover.specs.Answers.{convertedBy, pixelAnswer, readBy, reading, levelsBy, levelsAnswer}
+use Rattle.corkplover.specs.Answers.{convertedBy, pixelAnswer, readBy, reading, levelsReadBy, levelsAnswer}
 use Rattle.corkplover.specs.declared.pixels.PixelAnswer.the-variants.{Converted}
 use Rattle.corkplover.specs.Meaning.{Meaning, meaningRefusal, meaningOfPixel, meaningOfReading, meaningOfLevels}
 use Rattle.corkplover.specs.Packing.{packed, numberIn, secondIn, firstIn, middleIn, lastIn, packedRefusal, packedPixel, packedReading, packedLevels}
@@ -44,9 +44,9 @@ use Rattle.promises.proofs.Accepted.{accepted}
 use Rattle.promises.proofs.Fields.{fields}
 
 -- the number that a call returns, and what its answer says
-pub record Unpacked (x : ℕ) (said : Meaning) : Type 0 where
-  pub number-out : numberIn x ≡ said .number
-  pub place-out : (said .number ≡ 0 → ⊥) → (secondIn x ≡ said .place .plane) × ((firstIn x ≡ said .place .row) × (middleIn x ≡ said .place .column))
+pub record Unpacked (x : ℕ) (meaning : Meaning) : Type 0 where
+  pub number-out : numberIn x ≡ meaning .number
+  pub place-out : (meaning .number ≡ 0 → ⊥) → (secondIn x ≡ meaning .place .plane) × ((firstIn x ≡ meaning .place .row) × (middleIn x ≡ meaning .place .column))
 
 -- a place that the fields have room for
 pub record PlaceFits (place : Place) : Type 0 where
@@ -59,8 +59,8 @@ refusal-unpacked r h k =
     let f = fields (r .number) (r .place .plane) (r .place .row) (r .place .column) 0 h (k .plane-fits) (k .row-fits) (k .column-fits) (omega arith) in
     record { number-out = f .number-out; place-out = λ t. (f .second-out, (f .first-out, f .middle-out)) }
 
-pub free-unpacked : (x : ℕ) (said : Meaning) → numberIn x ≡ 0 → said .number ≡ 0 → Unpacked x said
-free-unpacked x said e f = record { number-out = e ∙ sym f; place-out = λ t. absurd (t f) }
+pub free-unpacked : (x : ℕ) (meaning : Meaning) → numberIn x ≡ 0 → meaning .number ≡ 0 → Unpacked x meaning
+free-unpacked x meaning e f = record { number-out = e ∙ sym f; place-out = λ t. absurd (t f) }
 
 -- a refusal that the fields have room for
 pub record Small (r : Refusal) : Type 0 where
@@ -80,7 +80,7 @@ sizes-small width height layouts = (nowhere-small 8 (omega arith), (nowhere-smal
 
 -- of any call, whatever was searched for a bad sample
 module _ (pack : Admission → ℕ) (say : Admission → Meaning) (c : Call) (s : Setting)
-    (free : Unpacked (pack (admission.Served (served s))) (say (admission.Served (served s))))
+    (free : Unpacked (pack (admission.Admitted (served s))) (say (admission.Admitted (served s))))
     (packs : (r : Refusal) → pack (admission.Refused r) ≡ packedRefusal r) (refuses : (r : Refusal) → say (admission.Refused r) ≡ meaningRefusal r)
     (sizes : List Rule) (small : EveryRule Small sizes) (bad : Found)
     (fit : first sizes ≡ Passed → (place : Place) → bad ≡ found.At place → PlaceFits place)
@@ -118,7 +118,7 @@ pixel-unpacked w s p =
 pub levels-unpacked : (s : Setting) (p : Pixel) → Unpacked (packedLevels (levelsAnswer s p)) (meaningOfLevels (levelsAnswer s p))
 unfolding levelsAnswer
 levels-unpacked s p =
-    call-unpacked (λ v. packedLevels (levelsBy p v)) (λ v. meaningOfLevels (levelsBy p v)) call.Meter s (free-unpacked _ _ refl refl) (λ r. refl)
+    call-unpacked (λ v. packedLevels (levelsReadBy p v)) (λ v. meaningOfLevels (levelsReadBy p v)) call.Meter s (free-unpacked _ _ refl refl) (λ r. refl)
     (λ r. refl) [] tt _ (λ z. pixel-fits Ycc s p)
 
 kind-fits : (k : SampleKind) → planeNumber k < 256

@@ -69,10 +69,10 @@ powers d top h u =
     }
 
 -- what a check of three depths tells
-pub told-outside : (b : Bool) (x : Depths) → cond b (checked.Depths x) checked.Outside ≡ checked.Outside → b ≡ false
-told-outside b x e = chose-second b _ _ _ e (λ f. true≢false cc) .0
+pub was-outside : (b : Bool) (x : Depths) → cond b (checked.Depths x) checked.Outside ≡ checked.Outside → b ≡ false
+was-outside b x e = chose-second b _ _ _ e (λ f. true≢false cc) .0
 
-pub told-depths : (b : Bool) (x d : Depths) → cond b (checked.Depths x) checked.Outside ≡ checked.Depths d → (b ≡ true) × (x ≡ d)
-told-depths b x d e =
+pub were-depths : (b : Bool) (x d : Depths) → cond b (checked.Depths x) checked.Outside ≡ checked.Depths d → (b ≡ true) × (x ≡ d)
+were-depths b x d e =
     let t = chose-first b _ _ _ e (λ f. true≢false cc) in
     (t .0, (let q = t .1 in cc))

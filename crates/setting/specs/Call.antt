@@ -6,14 +6,10 @@ use Rattle.setting.specs.declared.Call.the-variants.{Convert, Meter, Ima
 use Rattle.setting.specs.declared.Way.{Way}
 use Rattle.setting.specs.declared.Way.the-variants.{Forward, Reverse}
 
--- the side that a conversion reads, and the side that it writes
+-- the side that a conversion reads
 abbrev pub inputOf : Way → Side
 inputOf Forward = Rgb
 inputOf Reverse = Ycc
-
-abbrev pub outputOf : Way → Side
-outputOf Forward = Ycc
-outputOf Reverse = Rgb
 
 -- the side that a call reads
 abbrev pub reads : Call → Side

@@ -83,7 +83,7 @@ served s = servedBy (entry s) s
 
 -- who is let in: what passed its rules, as what is served
 abbrev pub admitted : Check → Served → Admission
-admitted check.Passed x = admission.Served x
+admitted check.Passed x = admission.Admitted x
 admitted (check.Refused r) x = admission.Refused r
 
 -- THE answer on a setting

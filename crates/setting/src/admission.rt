@@ -28,7 +28,7 @@ pub struct Served {
 }
 
 pub enum Admission {
-    Served(Served),
+    Admitted(Served),
     Refused(Refusal),
 }
 
@@ -156,7 +156,7 @@ fn admit_depths(call: Call, e: Entry, s: Setting) -> Admission
     if !answers(call, e, depths) {
         return refused(Refusal::NOT_FOR_THIS_SETTING);
     }
-    Admission::Served(Served {
+    Admission::Admitted(Served {
         formulas,
         depths,
         rgb_full,

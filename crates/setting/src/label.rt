@@ -40,7 +40,7 @@ pub fn matrix_label(code: u8) -> Label
     }
 }
 
-pub fn is_reserved(label: Label) -> bool
+pub(crate) fn is_reserved(label: Label) -> bool
     ensures { λ r. ⌜ r ≡ isReserved label ⌝ }
 {
     match label {

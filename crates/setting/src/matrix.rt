@@ -93,7 +93,7 @@ fn luma(kr: u64, kb: u64) -> Entry
     }
 }
 
-pub fn matrix_of(code: u8) -> Matrix
+pub(crate) fn matrix_of(code: u8) -> Matrix
     ensures { λ r. ⌜ r ≡ matrixOf code ⌝ }
 {
     match code {

@@ -3,15 +3,15 @@ use mathlib.Core.Path.{sym, _∙_}
 use borrow.Author.Needs.{needs}
 use lib.ListN.{length}
 use Rattle.frame.specs.Frame.{inputPicture, outputLayout}
-use Rattle.frame.proofs.FrameLaws.{LetIn, all-ready, paintable, painted, zeroed}
+use Rattle.frame.proofs.FrameLaws.{FrameAdmitted, all-ready, paintable, painted, zeroed}
 use Rattle.frame.proofs.convert_frame.Statement.{statement}
 use Rattle.frame.proofs.convert_frame.Tie as tie
 
 let-in : (c : tie.After-served)
     → let x = c .before .before .before .before .before .before .before .before .before .args in
-    LetIn (x .way) (x .s) (inputPicture (x .size) (x .a0 .now) (x .a1 .now) (x .a2 .now))
+    FrameAdmitted (x .way) (x .s) (inputPicture (x .size) (x .a0 .now) (x .a1 .now) (x .a2 .now))
     (outputLayout (x .size) (length (x .b0 .now)) (length (x .b1 .now)) (length (x .b2 .now))) (c .served .given .0 .0)
-let-in c = record { told = sym (c .before .before .admit-picture .ensures) ∙ c .served .given .1 }
+let-in c = record { is-admitted = sym (c .before .before .admit-picture .ensures) ∙ c .served .given .1 }
 
 plan-of-requires : tie.Need-plan-of-requires
 plan-of-requires c κs = all-ready (let-in (c .before))

@@ -2,7 +2,7 @@
 use mathlib.Core.Path.{sym, ap, _∙_}
 use borrow.Author.Needs.{needs}
 use Rattle.setting.specs.declared.Call.the-variants.{Meter}
-use Rattle.admit.proofs.Accepted.{let-in}
+use Rattle.admit.proofs.Accepted.{pixel-admitted}
 use Rattle.corkplover.specs.Answers.{levelsAnswer}
 use Rattle.corkplover.specs.declared.meters.LevelsAnswer.the-variants as answer
 use Rattle.corkplover.proofs.meters.meter_pixel.Statement.{statement}
@@ -11,7 +11,7 @@ use Rattle.corkplover.proofs.meters.meter_pixel.Tie as tie
 levels-of-requires : tie.Need-levels-of-requires
 levels-of-requires c κs =
     let a = c .before .before .before .before .before .args in
-    let k = let-in Meter (a .s) (a .p) _ (sym (c .before .before .before .before .admit-pixel .ensures) ∙ c .before .before .served .given .1) .is-ready in
+    let k = pixel-admitted Meter (a .s) (a .p) _ (sym (c .before .before .before .before .admit-pixel .ensures) ∙ c .before .before .served .given .1) .is-ready in
     (k .three .luma, k .three .chroma)
 
 returns : tie.Need-returns

@@ -3,14 +3,14 @@ use mathlib.Core.Path.{_≡_, sym, ap, _∙_}
 use borrow.Author.Needs.{needs}
 use Rattle.setting.specs.declared.Call.the-variants.{Convert}
 use Rattle.setting.specs.Call.{reads}
-use Rattle.admit.proofs.Accepted.{LetIn, let-in}
+use Rattle.admit.proofs.Accepted.{PixelAdmitted, pixel-admitted}
 use Rattle.corkplover.specs.Answers.{convertedBy, pixelAnswer}
 use Rattle.corkplover.specs.declared.pixels.PixelAnswer.the-variants as answer
 use Rattle.corkplover.proofs.pixels.convert_pixel.Statement.{statement}
 use Rattle.corkplover.proofs.pixels.convert_pixel.Tie as tie
 
-known : (c : tie.After-served) → let a = c .before .before .before .args in LetIn (reads (Convert (a .way))) (a .p) (c .served .given .0 .0)
-known c = let a = c .before .before .before .args in let-in (Convert (a .way)) (a .s) (a .p) _ (sym (c .before .before .admit-pixel .ensures) ∙ c .served .given .1)
+known : (c : tie.After-served) → let a = c .before .before .before .args in PixelAdmitted (reads (Convert (a .way))) (a .p) (c .served .given .0 .0)
+known c = let a = c .before .before .before .args in pixel-admitted (Convert (a .way)) (a .s) (a .p) _ (sym (c .before .before .admit-pixel .ensures) ∙ c .served .given .1)
 
 pixel-requires : tie.Need-pixel-requires
 pixel-requires c κs = let k = c .plan-of .ensures in (k .roomy, k .takes _ (known (c .before .before) .inside))

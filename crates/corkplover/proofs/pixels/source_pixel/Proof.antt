@@ -6,14 +6,14 @@ use Rattle.sample.specs.declared.Side.the-variants.{Ycc}
 use Rattle.setting.specs.declared.Call.the-variants.{ImageCheck}
 use Rattle.plan.specs.Source.{hasSource}
 use Rattle.plan.proofs.SourceLaws.{takes-back, takes-forth, comes-back-as}
-use Rattle.admit.proofs.Accepted.{LetIn, let-in}
+use Rattle.admit.proofs.Accepted.{PixelAdmitted, pixel-admitted}
 use Rattle.corkplover.specs.Answers.{sourceAnswer}
 use Rattle.corkplover.specs.declared.pixels.SourceAnswer.the-variants as answer
 use Rattle.corkplover.proofs.pixels.source_pixel.Statement.{statement}
 use Rattle.corkplover.proofs.pixels.source_pixel.Tie as tie
 
-known : (c : tie.After-served) → let a = c .before .before .before .args in LetIn Ycc (a .p) (c .served .given .0 .0)
-known c = let a = c .before .before .before .args in let-in ImageCheck (a .s) (a .p) _ (sym (c .before .before .admit-pixel .ensures) ∙ c .served .given .1)
+known : (c : tie.After-served) → let a = c .before .before .before .args in PixelAdmitted Ycc (a .p) (c .served .given .0 .0)
+known c = let a = c .before .before .before .args in pixel-admitted ImageCheck (a .s) (a .p) _ (sym (c .before .before .admit-pixel .ensures) ∙ c .served .given .1)
 
 comes-back-requires : tie.Need-comes-back-requires
 comes-back-requires c κs =

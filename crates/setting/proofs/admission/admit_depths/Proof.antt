@@ -5,7 +5,7 @@ use borrow.Author.Needs.{needs}
 use borrow.Author.Tests.{not-true, not-false}
 use Rattle.sample.specs.declared.Depths.{Depths}
 use Rattle.sample.specs.declared.DepthsChecked.the-variants as checked
-use Rattle.sample.proofs.DepthLaws.{told-outside, told-depths}
+use Rattle.sample.proofs.DepthLaws.{was-outside, were-depths}
 use Rattle.refusal.specs.Rules.{first, numbered}
 use Rattle.refusal.specs.declared.Check.the-variants.{Passed, Refused}
 use Rattle.setting.specs.Agreement.{depthsServed, agree, answers}
@@ -41,11 +41,11 @@ module _ (call : Call) (e : Entry) (s : Setting) where
 
   not-fit : servedDepths (e .deepest) (s .«rgb_depth») (s .«y_depth») (s .«c_depth») ≡ checked.Outside → Fit ≡ false
   unfolding servedDepths
-  not-fit f = told-outside Fit _ f
+  not-fit f = was-outside Fit _ f
 
   fit : (d : Depths) → servedDepths (e .deepest) (s .«rgb_depth») (s .«y_depth») (s .«c_depth») ≡ checked.Depths d → (Fit ≡ true) × (depths s ≡ d)
   unfolding servedDepths
-  fit d f = told-depths Fit _ d f
+  fit d f = were-depths Fit _ d f
 
   -- what was tested of the checked depths was tested of the setting's
   agreed : (d : Depths) (a t : Bool) → depths s ≡ d → a ≡ agree e d (s .«rgb_full») (s .«ycc_full») → a ≡ t → Agree ≡ t

@@ -6,7 +6,7 @@ use borrow.Author.Needs.{needs}
 use Rattle.sample.specs.Depth.{areDepths, atMost, depthsOf, depthsChecked}
 use Rattle.sample.specs.declared.Depths.{Depths}
 use Rattle.sample.specs.declared.DepthsChecked.the-variants as checked
-use Rattle.sample.proofs.DepthLaws.{told-outside, told-depths}
+use Rattle.sample.proofs.DepthLaws.{was-outside, were-depths}
 use Rattle.setting.specs.Agreement.{depthsServed}
 use Rattle.setting.specs.Rules.{servedDepths}
 use Rattle.setting.proofs.admission.served_depths.Statement.{statement}
@@ -14,11 +14,11 @@ use Rattle.setting.proofs.admission.served_depths.Tie as tie
 
 not-depths : (r y c : ℕ) → depthsChecked r y c ≡ checked.Outside → areDepths r y c ≡ false
 unfolding depthsChecked
-not-depths r y c e = told-outside (areDepths r y c) _ e
+not-depths r y c e = was-outside (areDepths r y c) _ e
 
 are-depths : (r y c : ℕ) (d : Depths) → depthsChecked r y c ≡ checked.Depths d → (areDepths r y c ≡ true) × (depthsOf r y c ≡ d)
 unfolding depthsChecked
-are-depths r y c d e = told-depths (areDepths r y c) _ d e
+are-depths r y c d e = were-depths (areDepths r y c) _ d e
 
 -- the limit, tested of the checked depths
 limit : (most : ℕ) (d x : Depths) (b t : Bool) → x ≡ d → b ≡ atMost most d → b ≡ t → atMost most x ≡ t
