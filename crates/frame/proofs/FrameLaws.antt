@@ -20,7 +20,7 @@ use Rattle.plan.specs.Conversion.{convert}
 use Rattle.plan.specs.Plan.{planned, Roomy, Takes, Plans}
 use Rattle.plan.specs.declared.Plan.{Plan}
 use Rattle.admit.proofs.Accepted.{accepted-of, is-ready, all-fit, pixels-inside}
-use Rattle.frame.specs.Frame.{frameAdmission, frameAnswer, madePlane, convertedPlane, lengthOf, outPlane, FrameAfter, MadePlanes}
+use Rattle.frame.specs.Frame.{frameAdmission, frameAnswer, mappedPlane, convertedPlane, lengthOf, outPlane, FrameAfter, MappedPlanes}
 use Rattle.frame.specs.declared.FrameAnswer.the-variants.{Done, Refused}
 
 module _ (way : Way) (s : Setting) (a : Picture) (b : Layout) where
@@ -65,9 +65,9 @@ module _ {way : Way} {s : Setting} {a : Picture} {b : Layout} {x : Served} (l : 
         let inside = subst (λ (y : Served). EveryPixel (InsideOf (inputOf way) (y .depths)) a) (k .1) (pixels-inside (Convert way) s a (b ∷ []) (k .0)) in
         (h .roomy, (f .0, (f .1 .0, λ j i p q. h .takes _ (inside j i p q))))
 
-    made : (k : ℕ) {q : List ℕ} → q ≡ madePlane k (planned plan) a (b .stride) (lengthOf k b) → q ≡ outPlane k way s a b
-    made k m =
+    mapped : (k : ℕ) {q : List ℕ} → q ≡ mappedPlane k (planned plan) a (b .stride) (lengthOf k b) → q ≡ outPlane k way s a b
+    mapped k m =
         m ∙ plane-same _ _ _ _ _ _ (λ j i _ _. ap (sampleOf k) (h .is (pixelOf a j i))) ∙ sym (plane-done way s a b x (l .is-admitted) k)
 
-    pub painted : {q0 q1 q2 : List ℕ} → MadePlanes (planned plan) a b q0 q1 q2 → FrameAfter way s a b Done q0 q1 q2
-    painted m = (sym (done way s a b x (l .is-admitted)), (made 0 (m .0), (made 1 (m .1 .0), made 2 (m .1 .1))))
+    pub painted : {q0 q1 q2 : List ℕ} → MappedPlanes (planned plan) a b q0 q1 q2 → FrameAfter way s a b Done q0 q1 q2
+    painted m = (sym (done way s a b x (l .is-admitted)), (mapped 0 (m .0), (mapped 1 (m .1 .0), mapped 2 (m .1 .1))))

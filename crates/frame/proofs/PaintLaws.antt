@@ -13,7 +13,7 @@ use Rattle.planes.specs.declared.size.Layout.{Layout}
 use Rattle.planes.proofs.Painted.{Progress, progress-none, progress-more, Painted, painted-none, painted-more, painted-end}
 use Rattle.planes.proofs.Tables.{part-width, part-sample}
 use Rattle.convert.specs.Row.{pixelIn, EveryOf, OneWidth}
-use Rattle.frame.specs.Frame.{madeSample, madePlane, lengthOf, MadePlanes, rowPart, partMade, RowsPut}
+use Rattle.frame.specs.Frame.{mappedSample, mappedPlane, lengthOf, MappedPlanes, rowPart, mappedPart, RowsPut}
 
 -- six parts of one width
 pub parts-one-width : (a0 a1 a2 b0 b1 b2 : List ℕ) (from to width : ℕ)
@@ -32,7 +32,7 @@ parts-one-width a0 a1 a2 b0 b1 b2 from to width h k =
 
 -- the first j rows of plane k are painted, as f makes them
 abbrev RowsPainted : (Pixel → Pixel) → Picture → Layout → ℕ → List ℕ → ℕ → ℕ → Type 0
-RowsPainted f a b k y j done = Painted (a .width) (a .height) (b .stride) (madeSample k f a) (lengthOf k b) y j done
+RowsPainted f a b k y j done = Painted (a .width) (a .height) (b .stride) (mappedSample k f a) (lengthOf k b) y j done
 
 -- The loop's invariant: j rows of the picture are painted into the planes y0, y1, y2 of layout b.
 pub record Painting (f : Pixel → Pixel) (a : Picture) (b : Layout) (y0 y1 y2 : List ℕ) (j done : ℕ) : Type 0 where
@@ -94,7 +94,7 @@ module _ {f : Pixel → Pixel} {a : Picture} {b : Layout} {y0 y1 y2 : List ℕ} 
 
   -- y was zeroed up to the row, and then had the row put into its own part
   turned : (n : ℕ) {y z w : List ℕ} → to + a .width ≤ lengthOf n b → RowsPainted f a b n y j done
-      → z ≡ cleared y done to → w ≡ patched z to (to + a .width) (partMade n f from (a .width) (a .p0) (a .p1) (a .p2))
+      → z ≡ cleared y done to → w ≡ patched z to (to + a .width) (mappedPart n f from (a .width) (a .p0) (a .p1) (a .p2))
       → RowsPainted f a b n w (j + 1) (to + a .width)
   turned n k p e g =
       painted-more _ _ _ _ _ _ _ _ _ j done to _ _ p (t .so-far .fits .sized .stride-within .from-least) (t .row-inside)
@@ -120,14 +120,14 @@ module _ {f : Pixel → Pixel} {a : Picture} {b : Layout} {y0 y1 y2 : List ℕ} 
   rest-long = let k = d .fits .long in omega (arith, d .progress .until-end, d .plane0 .len, d .plane1 .len, d .plane2 .len)
 
   finished : (n : ℕ) {y z : List ℕ} → RowsPainted f a b n y j done → a .height ≤ j → done ≤ length y
-      → z ≡ cleared y done (length y) → z ≡ madePlane n f a (b .stride) (lengthOf n b)
+      → z ≡ cleared y done (length y) → z ≡ mappedPlane n f a (b .stride) (lengthOf n b)
   finished n p h k e =
       let s = d .fits .sized in
       painted-end _ _ _ _ _ _ _ j done p (omega (arith, s .width-within .from-least, s .stride-within .from-least))
       (omega (arith, d .progress .rows)) (rw (p .len) at k) (rw (p .len) at e)
 
   pub painting-end : {z0 z1 z2 : List ℕ} → a .height ≤ j → Zeroed done (length y0) (length y1) (length y2) y0 y1 y2 z0 z1 z2
-      → MadePlanes f a b z0 z1 z2
+      → MappedPlanes f a b z0 z1 z2
   painting-end h e =
       let k = rest-long in
       (finished 0 (d .plane0) h (k .long0) (e .0), (finished 1 (d .plane1) h (k .long1) (e .1 .0), finished 2 (d .plane2) h (k .long2) (e .1 .1)))

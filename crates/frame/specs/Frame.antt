@@ -29,7 +29,7 @@ inputPicture z p0 p1 p2 = picture (z .width) (z .height) (z .«input_stride») p
 abbrev pub outputLayout : Size → ℕ → ℕ → ℕ → Layout
 outputLayout z n0 n1 n2 = layout (z .«output_stride») n0 n1 n2
 
--- whether a conversion of picture a into planes of layout b is let in
+-- whether a conversion of picture a into planes of layout b is admitted
 abbrev pub frameAdmission : Way → Setting → Picture → Layout → Admission
 frameAdmission way s a b = pictureAdmission (Convert way) s a (b ∷ [])
 
@@ -41,16 +41,16 @@ frameBy (admission.Refused r) = Refused r
 unfoldable pub frameAnswer : Way → Setting → Picture → Layout → FrameAnswer
 frameAnswer way s a b = frameBy (frameAdmission way s a b)
 
--- the sample of plane k that f makes of the pixel at row j and column i, and the plane of n elements that it makes of a picture
-abbrev pub madeSample : ℕ → (Pixel → Pixel) → Picture → ℕ → ℕ → ℕ
-madeSample k f a j i = sampleOf k (f (pixelOf a j i))
+-- a picture by a function of its pixels: the sample of plane k at row j and column i, and the plane of n elements
+abbrev pub mappedSample : ℕ → (Pixel → Pixel) → Picture → ℕ → ℕ → ℕ
+mappedSample k f a j i = sampleOf k (f (pixelOf a j i))
 
-abbrev pub madePlane : ℕ → (Pixel → Pixel) → Picture → ℕ → ℕ → List ℕ
-madePlane k f a stride n = planeOf n (a .width) (a .height) stride (madeSample k f a)
+abbrev pub mappedPlane : ℕ → (Pixel → Pixel) → Picture → ℕ → ℕ → List ℕ
+mappedPlane k f a stride n = planeOf n (a .width) (a .height) stride (mappedSample k f a)
 
 -- a converted plane of n elements
 abbrev pub convertedPlane : ℕ → Way → Served → Picture → ℕ → ℕ → List ℕ
-convertedPlane k way x a stride n = madePlane k (convert way x) a stride n
+convertedPlane k way x a stride n = mappedPlane k (convert way x) a stride n
 
 -- the converted plane where nothing refuses, and else zeros
 abbrev pub planeBy : Admission → ℕ → Way → Picture → ℕ → ℕ → List ℕ
@@ -72,22 +72,22 @@ PlanesAfter way s a b p0 p1 p2 = (p0 ≡ outPlane 0 way s a b) × ((p1 ≡ outPl
 abbrev pub FrameAfter : Way → Setting → Picture → Layout → FrameAnswer → List ℕ → List ℕ → List ℕ → Type 0
 FrameAfter way s a b x p0 p1 p2 = (x ≡ frameAnswer way s a b) × PlanesAfter way s a b p0 p1 p2
 
--- the three planes of layout b that f makes of a picture
-abbrev pub MadePlanes : (Pixel → Pixel) → Picture → Layout → List ℕ → List ℕ → List ℕ → Type 0
-MadePlanes f a b p0 p1 p2 =
-    (p0 ≡ madePlane 0 f a (b .stride) (b .n0))
-    × ((p1 ≡ madePlane 1 f a (b .stride) (b .n1)) × (p2 ≡ madePlane 2 f a (b .stride) (b .n2)))
+-- a picture by such a function, in three planes of layout b
+abbrev pub MappedPlanes : (Pixel → Pixel) → Picture → Layout → List ℕ → List ℕ → List ℕ → Type 0
+MappedPlanes f a b p0 p1 p2 =
+    (p0 ≡ mappedPlane 0 f a (b .stride) (b .n0))
+    × ((p1 ≡ mappedPlane 1 f a (b .stride) (b .n1)) × (p2 ≡ mappedPlane 2 f a (b .stride) (b .n2)))
 
 -- the part of a plane that is a row of n samples from index a
 abbrev pub rowPart : List ℕ → ℕ → ℕ → List ℕ
 rowPart p a n = take (a + n - a) (drop a p)
 
--- row k of the three that f makes of such parts of three planes
-abbrev pub partMade : ℕ → (Pixel → Pixel) → ℕ → ℕ → List ℕ → List ℕ → List ℕ → List ℕ
-partMade k f from n a0 a1 a2 = rowOf k f (rowPart a0 from n) (rowPart a1 from n) (rowPart a2 from n)
+-- row k of such parts of three planes, by a function of their pixels
+abbrev pub mappedPart : ℕ → (Pixel → Pixel) → ℕ → ℕ → List ℕ → List ℕ → List ℕ → List ℕ
+mappedPart k f from n a0 a1 a2 = rowOf k f (rowPart a0 from n) (rowPart a1 from n) (rowPart a2 from n)
 
 -- the planes q are the planes p with those rows put in from index `to` on
 abbrev pub RowsPut : (Pixel → Pixel) → ℕ → ℕ → ℕ → (a0 a1 a2 p0 p1 p2 q0 q1 q2 : List ℕ) → Type 0
 RowsPut f from to n a0 a1 a2 p0 p1 p2 q0 q1 q2 =
-    (q0 ≡ patched p0 to (to + n) (partMade 0 f from n a0 a1 a2))
-    × ((q1 ≡ patched p1 to (to + n) (partMade 1 f from n a0 a1 a2)) × (q2 ≡ patched p2 to (to + n) (partMade 2 f from n a0 a1 a2)))
+    (q0 ≡ patched p0 to (to + n) (mappedPart 0 f from n a0 a1 a2))
+    × ((q1 ≡ patched p1 to (to + n) (mappedPart 1 f from n a0 a1 a2)) × (q2 ≡ patched p2 to (to + n) (mappedPart 2 f from n a0 a1 a2)))

@@ -5,7 +5,7 @@ ghost use Rattle.planes.specs.Picture.{layoutOf, EveryPixel};
 ghost use Rattle.planes.specs.Sizes.{Long, Fits};
 ghost use Rattle.plan.specs.Plan.{planned, Roomy, Takes};
 ghost use Rattle.convert.specs.Row.{EveryOf};
-ghost use Rattle.frame.specs.Frame.{inputPicture, outputLayout, MadePlanes, rowPart, RowsPut};
+ghost use Rattle.frame.specs.Frame.{inputPicture, outputLayout, MappedPlanes, rowPart, RowsPut};
 use crate::Size;
 use plan::Plan;
 use planes::size::row_start;
@@ -58,7 +58,7 @@ pub fn paint(
     requires { ⌜ Fits (size .width) (size .height) (layoutOf (inputPicture size (now a0) (now a1) (now a2))) ⌝ }
     requires { ⌜ Fits (size .width) (size .height) (outputLayout size (length (now b0)) (length (now b1)) (length (now b2))) ⌝ }
     requires { ⌜ EveryPixel (Takes plan) (inputPicture size (now a0) (now a1) (now a2)) ⌝ }
-    ensures { λ _. ⌜ MadePlanes (planned plan) (inputPicture size (now (a0 .entry)) (now (a1 .entry)) (now (a2 .entry)))
+    ensures { λ _. ⌜ MappedPlanes (planned plan) (inputPicture size (now (a0 .entry)) (now (a1 .entry)) (now (a2 .entry)))
         (outputLayout size (length (now (b0 .entry))) (length (now (b1 .entry))) (length (now (b2 .entry))))
         (now (b0 .exit)) (now (b1 .exit)) (now (b2 .exit)) ⌝ }
 {

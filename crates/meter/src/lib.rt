@@ -1,4 +1,4 @@
-// The spot meter's levels. A level is the one float quotient of a numerator and a denominator that are both exact as floats.
+// The meter's levels. A level is the one float quotient of a numerator and a denominator that are both exact as floats.
 use sample::ChromaDepth;
 use sample::LumaDepth;
 use sample::Pixel;

@@ -19,7 +19,7 @@ where-true : (b : Bool) (x y z : ℕ) → (b ≡ true → x ≡ y) → cond b x 
 where-true true x y z e = e refl
 where-true false x y z e = refl
 
--- the test of a row and a column, as a fact
+-- what a row and a column that pass their test are
 inside : (a b h w : ℕ) → ltb a h && ltb b w ≡ true → (a < h) × (b < w)
 inside a b h w e = let t = both-true (ltb a h) (ltb b w) e in (ltb-true a h (t .0), ltb-true b w (t .1))
 

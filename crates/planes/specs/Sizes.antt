@@ -52,7 +52,7 @@ abbrev pub sizeRules : ℕ → ℕ → List Layout → List Rule
 sizeRules width height layouts =
     rule 8 (sizeOutside width height layouts) ∷ rule 9 (someLayout (layoutShort width height) layouts) ∷ []
 
--- n from least to most, as a fact
+-- n is from least to most
 pub record Within (n least most : ℕ) : Type 0 where
   pub from-least : least ≤ n
   pub to-most : n ≤ most

@@ -15,7 +15,7 @@ use Rattle.refusal.specs.declared.Check.the-variants.{Passed}
 use Rattle.refusal.specs.declared.Place.{Place}
 use Rattle.refusal.specs.declared.Refusal.{Refusal}
 use Rattle.planes.specs.First.{IsFirstPlace}
-use Rattle.planes.specs.Plane.{planeOf, sampleAt}
+use Rattle.planes.specs.Plane.{sampleAt}
 use Rattle.planes.specs.Sizes.{needed, LongEnough}
 use Rattle.planes.specs.declared.search.Found.{Found}
 use Rattle.planes.specs.declared.search.Found.the-variants as found
@@ -31,9 +31,10 @@ use Rattle.plan.specs.Source.{HasSource, hasSource}
 use Rattle.setting.specs.declared.Way.the-variants.{Forward, Reverse}
 use Rattle.setting.proofs.ReadyLaws.{ready}
 use Rattle.plan.proofs.ConversionTheorems.{reverse-inside, same-pixel}
-use Rattle.planes.specs.Picture.{Picture, picture, pixelOf, sampleOf, layoutOf, EveryPixel}
+use Rattle.planes.specs.Picture.{Picture, picture, pixelOf, layoutOf, EveryPixel}
 use Rattle.admit.specs.Rules.{pictureAdmission}
 use Rattle.admit.proofs.Accepted.{PictureAccepted, accepted-of, of-accepted, pixels-inside}
+use Rattle.frame.specs.Frame.{mappedSample, mappedPlane}
 use Rattle.image_check.specs.Image.{fails, firstFailing, answerFound, imageBy, imageAnswer}
 use Rattle.image_check.specs.declared.ImageAnswer.the-variants.{Yes, NoSource}
 use Rattle.corkplover.specs.Meaning.{meaningOfImage}
@@ -111,41 +112,41 @@ module _ (s : Setting) (a : Picture) (k : PictureAccepted ImageCheck s a []) whe
 
   -- converting back gives the source of every pixel that has one; here it is as a picture, in planes of its own width
   abbrev sample : ℕ → ℕ → ℕ → ℕ
-  sample n j i = sampleOf n (convert Reverse (served s) (pixelOf a j i))
+  sample n = mappedSample n (convert Reverse (served s)) a
 
   abbrev plane : ℕ → List ℕ
-  plane n = planeOf (needed (a .width) (a .height) (a .width)) (a .width) (a .height) (a .width) (sample n)
+  plane n = mappedPlane n (convert Reverse (served s)) a (a .width) (needed (a .width) (a .height) (a .width))
 
-  abbrev made : Picture
-  made = picture (a .width) (a .height) (a .width) (plane 0) (plane 1) (plane 2)
+  abbrev origin : Picture
+  origin = picture (a .width) (a .height) (a .width) (plane 0) (plane 1) (plane 2)
 
-  made-long : LongEnough (a .width) (a .height) (layoutOf made)
-  made-long =
+  origin-long : LongEnough (a .width) (a .height) (layoutOf origin)
+  origin-long =
       let long : (n : ℕ) → needed (a .width) (a .height) (a .width) ≤ length (plane n) =
       λ n. let e = plane-length (needed (a .width) (a .height) (a .width)) (a .width) (a .height) (a .width) (sample n) in omega arith in
       record { long0 = long 0; long1 = long 1; long2 = long 2 }
 
-  made-sample : (n j i : ℕ) → j < a .height → i < a .width → sampleAt (plane n) (a .width) j i ≡ sample n j i
-  made-sample n j i x y =
+  origin-sample : (n j i : ℕ) → j < a .height → i < a .width → sampleAt (plane n) (a .width) j i ≡ sample n j i
+  origin-sample n j i x y =
       plane-inside (needed (a .width) (a .height) (a .width)) (a .width) (a .height) (a .width) (sample n) j i x y (omega arith)
       (index-inside (a .width) (a .height) (a .width) j i x y)
 
-  made-pixel : (j i : ℕ) → j < a .height → i < a .width → pixelOf made j i ≡ convert Reverse (served s) (pixelOf a j i)
-  made-pixel j i x y = λ t. record { p0 = made-sample 0 j i x y t; p1 = made-sample 1 j i x y t; p2 = made-sample 2 j i x y t }
+  origin-pixel : (j i : ℕ) → j < a .height → i < a .width → pixelOf origin j i ≡ convert Reverse (served s) (pixelOf a j i)
+  origin-pixel j i x y = λ t. record { p0 = origin-sample 0 j i x y t; p1 = origin-sample 1 j i x y t; p2 = origin-sample 2 j i x y t }
 
-  made-source : ((j i : ℕ) → j < a .height → i < a .width → hasSource (served s) (pixelOf a j i) ≡ true) → SourcePicture s a
+  origin-is-source : ((j i : ℕ) → j < a .height → i < a .width → hasSource (served s) (pixelOf a j i) ≡ true) → SourcePicture s a
   unfolding hasSource
-  made-source h =
+  origin-is-source h =
       record {
-        source = made;
+        source = origin;
         width-is = refl;
         height-is = refl;
         stride-is = omega arith;
-        long = made-long;
+        long = origin-long;
         inside = λ j i x y.
-            subst (InsideRGB (depths s)) (sym (made-pixel j i x y))
+            subst (InsideRGB (depths s)) (sym (origin-pixel j i x y))
             (reverse-inside (served s) (pixelOf a j i) (ready ImageCheck s e) (within j i x y));
-        converts = λ j i x y. ap (convert Forward (served s)) (made-pixel j i x y) ∙ same-pixel _ _ (h j i x y);
+        converts = λ j i x y. ap (convert Forward (served s)) (origin-pixel j i x y) ∙ same-pixel _ _ (h j i x y);
       }
 
   source-has : SourcePicture s a → (j i : ℕ) → j < a .height → i < a .width → HasSource (served s) (pixelOf a j i)
@@ -164,7 +165,7 @@ module _ (s : Setting) (a : Picture) (k : PictureAccepted ImageCheck s a []) whe
   image-yes = (
     λ q.
         let h = every .0 (yes-found (firstFailing (hasSource (served s)) a) (sym searched ∙ q)) in
-        made-source (λ j i x y. source-exactly s e (pixelOf a j i) (within j i x y) .1 (h j i x y)),
+        origin-is-source (λ j i x y. source-exactly s e (pixelOf a j i) (within j i x y) .1 (h j i x y)),
     λ p. searched ∙ ap answerFound (every .1 (source-has p)),
   )
 

@@ -87,7 +87,7 @@ module _ (say : Admission → Meaning) (free : (x : Served) → say (admission.A
         (record { ten = λ t. means place g; other = λ t u. absurd (u refl); alone = λ t. (refl, (refl, refl)) }))
         (record { ten = λ t. absurd (omega arith); other = λ t u. absurd (t e); alone = λ t. absurd (t e) })
 
--- rule 10 on a picture and on a pixel of a side, as a fact; and on one sample, by its kind
+-- what rule 10 names: a bad sample of a picture, of a pixel of a side, or one sample by its kind
 abbrev pub BadIn : Side → Setting → Picture → Place → Type 0
 BadIn side s a = IsBadSample a (tops side (depths s))
 

@@ -1,4 +1,4 @@
--- What a setting that is not refused has, as facts that the formulas' code leans on.
+-- What a setting that is not refused has: what the formulas' code leans on.
 use mathlib.Core.Path.{_≡_}
 use Prim.Native.Nat.{_+_, _≤_}
 use Rattle.sample.specs.Depth.{ThreeDepths}
