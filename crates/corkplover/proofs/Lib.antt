@@ -1,3 +1,5 @@
--- Laws of the calls.
+-- Laws of the calls, and what the contract of each one says.
 pub mod LevelLaws
 pub mod FrameLaws
+pub mod Calls
+pub mod ExportedCalls

@@ -1,5 +1,5 @@
 -- What each call answers.
 pub mod Answers
-pub mod Meaning
 pub mod Packing
+pub mod Meaning
 pub mod After

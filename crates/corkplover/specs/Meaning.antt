@@ -1,15 +1,18 @@
--- What each case of an answer says in the rules' own terms: 0 or the refusal's number, a place, and what else there is.
-use mathlib.Core.Bool.{Bool, true, false}
+-- What each case of an answer says in the rules' own terms: 0 or the refusal's number, a place, and what else there is. The same of the
+-- number that a caller from another language is given, so that what is promised is said once for both.
+use mathlib.Core.Bool.{Bool, true, false, cond}
 use mathlib.Core.List.{List, [], _∷_}
 use Prim.Native.Nat.{ℕ}
+use lib.Dec.{eqb}
 use lib.Ieee.{Float}
-use Rattle.refusal.specs.Rules.{nowhere}
+use Rattle.refusal.specs.Rules.{at, nowhere}
 use Rattle.refusal.specs.declared.Place.{Place}
 use Rattle.refusal.specs.declared.Refusal.{Refusal}
 use Rattle.frame.specs.declared.FrameAnswer.{FrameAnswer}
 use Rattle.frame.specs.declared.FrameAnswer.the-variants as frame
 use Rattle.image_check.specs.declared.ImageAnswer.{ImageAnswer}
 use Rattle.image_check.specs.declared.ImageAnswer.the-variants as image
+use Rattle.corkplover.specs.Packing.{numberIn, secondIn, firstIn, middleIn, lastIn}
 use Rattle.corkplover.specs.declared.pixels.PixelAnswer.{PixelAnswer}
 use Rattle.corkplover.specs.declared.pixels.PixelAnswer.the-variants as pixel
 use Rattle.corkplover.specs.declared.pixels.SourceAnswer.{SourceAnswer}
@@ -58,11 +61,39 @@ meaningOfLevels (levels.Levels x) = meaningLevels (x .y ∷ x .cb ∷ x .cr ∷ 
 meaningOfLevels (levels.Refused r) = meaningRefusal r
 
 -- a frame's samples are in its planes
+abbrev pub meaningDone : Meaning
+meaningDone = meaningSamples []
+
 abbrev pub meaningOfFrame : FrameAnswer → Meaning
-meaningOfFrame frame.Done = meaningSamples []
+meaningOfFrame frame.Done = meaningDone
 meaningOfFrame (frame.Refused r) = meaningRefusal r
 
 abbrev pub meaningOfImage : ImageAnswer → Meaning
 meaningOfImage image.Yes = meaningSource true nowhere
 meaningOfImage (image.NoSource place) = meaningSource false place
 meaningOfImage (image.Refused r) = meaningRefusal r
+
+-- ---- the numbers that callers from other languages see, and what they find behind their pointers
+
+abbrev pub refusalIn : ℕ → Refusal
+refusalIn x = record { number = numberIn x; place = at (secondIn x) (firstIn x) (middleIn x) }
+
+-- a refusal, or else what is given
+abbrev pub meaningUnless : ℕ → Meaning → Meaning
+meaningUnless x m = cond (eqb (numberIn x) 0) m (meaningRefusal (refusalIn x))
+
+abbrev pub meaningInPixel : ℕ → Meaning
+meaningInPixel x = meaningUnless x (meaningSamples (firstIn x ∷ middleIn x ∷ lastIn x ∷ []))
+
+abbrev pub meaningInReading : ℕ → Float → Meaning
+meaningInReading x level = meaningUnless x (meaningLevels (level ∷ []))
+
+abbrev pub meaningInLevels : ℕ → Float → Float → Float → Meaning
+meaningInLevels x y cb cr = meaningUnless x (meaningLevels (y ∷ cb ∷ cr ∷ []))
+
+abbrev pub meaningInFrame : ℕ → Meaning
+meaningInFrame x = meaningUnless x meaningDone
+
+-- bits 8 to 15 are 0 for a yes
+abbrev pub meaningInImage : ℕ → Meaning
+meaningInImage x = meaningUnless x (meaningSource (eqb (secondIn x) 0) (at 0 (firstIn x) (middleIn x)))

@@ -10,102 +10,75 @@ use borrow.Author.Tests.{not-true, not-false}
 use lib.ListN.{length}
 use Rattle.sample.specs.Depth.{InsideRGB, InsideYCC}
 use Rattle.sample.proofs.Choices.{must}
-use Rattle.refusal.specs.Rules.{first}
-use Rattle.refusal.specs.declared.Check.the-variants.{Passed}
+use Rattle.refusal.specs.Rules.{NoneApplies}
 use Rattle.refusal.specs.declared.Place.{Place}
-use Rattle.refusal.specs.declared.Refusal.{Refusal}
 use Rattle.planes.specs.First.{IsFirstPlace}
+use Rattle.planes.specs.Picture.{Picture, picture, pixelOf, layoutOf}
 use Rattle.planes.specs.Plane.{sampleAt}
 use Rattle.planes.specs.Sizes.{needed, LongEnough}
 use Rattle.planes.specs.declared.search.Found.{Found}
 use Rattle.planes.specs.declared.search.Found.the-variants as found
 use Rattle.planes.proofs.PlaneTheorems.{plane-length, plane-inside}
 use Rattle.planes.proofs.Searches.{no-place-means, first-place-means}
-use Rattle.setting.specs.Rules.{depths, served, settingRules}
+use Rattle.setting.specs.Ready.{Ready}
+use Rattle.setting.specs.Rules.{depths, served}
 use Rattle.setting.specs.declared.Call.the-variants.{ImageCheck}
 use Rattle.setting.specs.declared.Setting.{Setting}
-use Rattle.setting.specs.declared.admission.Admission.{Admission}
-use Rattle.setting.specs.declared.admission.Admission.the-variants as admission
+use Rattle.setting.specs.declared.Way.the-variants.{Forward, Reverse}
+use Rattle.setting.proofs.ReadyLaws.{ready, is-kept}
 use Rattle.plan.specs.Conversion.{convert}
 use Rattle.plan.specs.Source.{HasSource, hasSource}
-use Rattle.setting.specs.declared.Way.the-variants.{Forward, Reverse}
-use Rattle.setting.proofs.ReadyLaws.{ready}
-use Rattle.plan.proofs.ConversionTheorems.{reverse-inside, same-pixel}
-use Rattle.planes.specs.Picture.{Picture, picture, pixelOf, layoutOf, EveryPixel}
-use Rattle.admit.specs.Rules.{pictureAdmission}
-use Rattle.admit.proofs.Accepted.{PictureAccepted, accepted-of, of-accepted, pixels-inside}
+use Rattle.plan.proofs.ConversionTheorems.{reverse-inside, same-pixel, tested, has-source}
+use Rattle.admit.specs.Rules.{pictureRules}
+use Rattle.admit.proofs.Accepted.{PictureAccepted, pixels-inside}
 use Rattle.frame.specs.Frame.{mappedSample, mappedPlane}
 use Rattle.image_check.specs.Image.{fails, firstFailing, answerFound, imageBy, imageAnswer}
-use Rattle.image_check.specs.declared.ImageAnswer.the-variants.{Yes, NoSource}
-use Rattle.corkplover.specs.Meaning.{meaningOfImage}
-use Rattle.promises.proofs.Refusals.{found-number, not-refused}
-use Rattle.promises.proofs.Lossless.{source-exactly}
-use Rattle.promises.proofs.Frames.{AdmittedAs, index-inside}
+use Rattle.corkplover.specs.Meaning.{Meaning, meaningOfImage}
+use Rattle.promises.specs.Images.{SourcePicture, FirstSourceless, ChecksImage}
+use Rattle.promises.proofs.Refusing.{none-admitted, none-accepted, image-refuses}
+use Rattle.promises.proofs.Frames.{index-inside}
+use Rattle.promises.proofs.Pixels.{same-word}
 
--- an RGB picture within depth that converts to a by the forward formulas
-pub record SourcePicture (s : Setting) (a : Picture) : Type 0 where
-  pub source : Picture
-  pub width-is : source .width ≡ a .width
-  pub height-is : source .height ≡ a .height
-  pub stride-is : source .width ≤ source .stride
-  pub long : LongEnough (source .width) (source .height) (layoutOf source)
-  pub inside : EveryPixel (InsideRGB (depths s)) source
-  pub converts : (j i : ℕ) → j < a .height → i < a .width → convert Forward (served s) (pixelOf source j i) ≡ pixelOf a j i
+-- what was found, from what the answer means
+yes-found : {m : Meaning} (f : Found) → m ≡ meaningOfImage (answerFound f) → m .source ≡ true ∷ [] → f ≡ found.Nothing
+yes-found (found.At place) e q = absurd (true≢false (same-word q (ap (λ m. m .source) e)))
+yes-found found.Nothing e q = refl
 
--- what was found, from the answer
-yes-found : (f : Found) → answerFound f ≡ Yes → f ≡ found.Nothing
-yes-found (found.At place) e = absurd (true≢false cc)
-yes-found found.Nothing e = refl
+none-found : {m : Meaning} (f : Found) (place : Place) → m ≡ meaningOfImage (answerFound f) → m .source ≡ false ∷ [] → m .place ≡ place → f ≡ found.At place
+none-found (found.At at) place e q p = ap found.At (sym (ap (λ m. m .place) e) ∙ p)
+none-found found.Nothing place e q p = absurd (true≢false (same-word (ap (λ m. m .source) e) q))
 
-none-found : (f : Found) (place : Place) → answerFound f ≡ NoSource place → f ≡ found.At place
-none-found (found.At q) place e = let g : q ≡ place = cc in ap found.At g
-none-found found.Nothing place e = absurd (true≢false cc)
+by-found : {m : Meaning} (f : Found) → m ≡ meaningOfImage (answerFound f) → (m .source ≡ true ∷ []) ⊎ (m .source ≡ false ∷ [])
+by-found (found.At place) e = inr (ap (λ m. m .source) e)
+by-found found.Nothing e = inl (ap (λ m. m .source) e)
 
--- an answer that is no refusal was admitted
-not-refused-admitted : (v : Admission) (a : Picture) → ((r : Refusal) → v ≡ admission.Refused r → r .number ≡ 0 → ⊥) → meaningOfImage (imageBy v a) .number ≡ 0 → AdmittedAs v
-not-refused-admitted (admission.Admitted x) a h e = record { by = x; is = refl }
-not-refused-admitted (admission.Refused r) a h e = absurd (h r refl e)
+module _ (s : Setting) (a : Picture) (h : NoneApplies (pictureRules ImageCheck s a [])) where
+  k : PictureAccepted ImageCheck s a []
+  k = none-accepted ImageCheck s _ _ h
 
--- the image check is not refused exactly if no rule applies
-pub image-accepted : (s : Setting) (a : Picture) → (meaningOfImage (imageAnswer s a) .number ≡ 0) ↔ PictureAccepted ImageCheck s a []
-unfolding imageAnswer
-image-accepted s a = (
-  λ e.
-      let x = not-refused-admitted (pictureAdmission ImageCheck s a []) a (not-refused ImageCheck s _ _ (refl, (refl, tt))) e in
-      accepted-of ImageCheck s _ _ (x .by) (x .is) .0,
-  λ k. ap (λ v. meaningOfImage (imageBy v a) .number) (of-accepted ImageCheck s _ _ k) ∙ found-number (firstFailing (hasSource (served s)) a),
-)
+  is-ready : Ready (served s)
+  is-ready = ready ImageCheck s (k .setting)
 
--- a pixel without a source was named
-pub record Named (s : Setting) (a : Picture) : Type 0 where
-  pub place : Place
-  pub is : imageAnswer s a ≡ NoSource place
-
-by-found : {s : Setting} {a : Picture} (f : Found) → imageAnswer s a ≡ answerFound f → (imageAnswer s a ≡ Yes) ⊎ Named s a
-by-found (found.At place) e = inr (record { place = place; is = e })
-by-found found.Nothing e = inl e
-
-module _ (s : Setting) (a : Picture) (k : PictureAccepted ImageCheck s a []) where
-  e : first (settingRules ImageCheck s) ≡ Passed
-  e = k .setting
-
-  -- a call that no row refuses is answered by the search
-  searched : imageAnswer s a ≡ answerFound (firstFailing (hasSource (served s)) a)
+  -- a call that no rule refuses is answered by the search
+  searched : meaningOfImage (imageAnswer s a) ≡ meaningOfImage (answerFound (firstFailing (hasSource (served s)) a))
   unfolding imageAnswer
-  searched = ap (λ v. imageBy v a) (of-accepted ImageCheck s _ _ k)
+  searched = ap (λ v. meaningOfImage (imageBy v a)) (none-admitted ImageCheck s _ _ h)
 
   within : (j i : ℕ) → j < a .height → i < a .width → InsideYCC (depths s) (pixelOf a j i)
   within = pixels-inside ImageCheck s a [] k
 
   -- the test of a pixel, and the claim
+  exactly : (j i : ℕ) → j < a .height → i < a .width → (hasSource (served s) (pixelOf a j i) ≡ true) ↔ HasSource (served s) (pixelOf a j i)
+  exactly j i x y =
+      let kept = is-kept s (k .setting) in
+      (tested (served s) (pixelOf a j i) is-ready kept (within j i x y), has-source (served s) (pixelOf a j i) is-ready kept)
+
   passing : (j i : ℕ) → j < a .height → i < a .width → (fails (hasSource (served s)) a j i ≡ false) ↔ HasSource (served s) (pixelOf a j i)
-  passing j i x y =
-      let t = source-exactly s e (pixelOf a j i) (within j i x y) in
-      (λ q. t .0 (not-false _ q), λ h. ap not (t .1 h))
+  passing j i x y = let t = exactly j i x y in (λ q. t .0 (not-false _ q), λ h. ap not (t .1 h))
 
   failing : (j i : ℕ) → j < a .height → i < a .width → (fails (hasSource (served s)) a j i ≡ true) ↔ (HasSource (served s) (pixelOf a j i) → ⊥)
   failing j i x y =
-      let t = source-exactly s e (pixelOf a j i) (within j i x y) in (
+      let t = exactly j i x y in (
         λ q h. true≢false (sym (t .1 h) ∙ not-true _ q),
         λ f. must (fails (hasSource (served s)) a j i) (λ q. f (t .0 (not-false _ q))),
       )
@@ -144,8 +117,7 @@ module _ (s : Setting) (a : Picture) (k : PictureAccepted ImageCheck s a []) whe
         stride-is = omega arith;
         long = origin-long;
         inside = λ j i x y.
-            subst (InsideRGB (depths s)) (sym (origin-pixel j i x y))
-            (reverse-inside (served s) (pixelOf a j i) (ready ImageCheck s e) (within j i x y));
+            subst (InsideRGB (depths s)) (sym (origin-pixel j i x y)) (reverse-inside (served s) (pixelOf a j i) is-ready (within j i x y));
         converts = λ j i x y. ap (convert Forward (served s)) (origin-pixel j i x y) ∙ same-pixel _ _ (h j i x y);
       }
 
@@ -160,23 +132,31 @@ module _ (s : Setting) (a : Picture) (k : PictureAccepted ImageCheck s a []) whe
   every : (firstFailing (hasSource (served s)) a ≡ found.Nothing) ↔ ((j i : ℕ) → j < a .height → i < a .width → HasSource (served s) (pixelOf a j i))
   every = no-place-means (fails (hasSource (served s)) a) 0 (a .width) (a .height) _ _ failing passing
 
-  -- Yes exactly if there is such a picture
-  pub image-yes : (imageAnswer s a ≡ Yes) ↔ SourcePicture s a
-  image-yes = (
+  -- yes exactly if there is such a picture
+  yes : (meaningOfImage (imageAnswer s a) .source ≡ true ∷ []) ↔ SourcePicture s a
+  yes = (
     λ q.
-        let h = every .0 (yes-found (firstFailing (hasSource (served s)) a) (sym searched ∙ q)) in
-        origin-is-source (λ j i x y. source-exactly s e (pixelOf a j i) (within j i x y) .1 (h j i x y)),
-    λ p. searched ∙ ap answerFound (every .1 (source-has p)),
+        let h = every .0 (yes-found (firstFailing (hasSource (served s)) a) searched q) in
+        origin-is-source (λ j i x y. exactly j i x y .1 (h j i x y)),
+    λ p. ap (λ m. m .source) (searched ∙ ap (λ f. meaningOfImage (answerFound f)) (every .1 (source-has p))),
   )
 
-  -- and NoSource with the first pixel that has no source, row by row
-  pub image-none : (place : Place)
-      → (imageAnswer s a ≡ NoSource place)
-      ↔ IsFirstPlace (λ j i. HasSource (served s) (pixelOf a j i) → ⊥) (λ j i. HasSource (served s) (pixelOf a j i)) 0 (a .width) (a .height) place
-  image-none place =
-      let t = first-place-means (fails (hasSource (served s)) a) 0 (a .width) (a .height) _ _ failing passing place in
-      (λ q. t .0 (none-found (firstFailing (hasSource (served s)) a) place (sym searched ∙ q)), λ p. searched ∙ ap answerFound (t .1 p))
+  -- and a none with the first pixel that has no source, row by row
+  none : (place : Place) → let m = meaningOfImage (imageAnswer s a) in ((m .source ≡ false ∷ []) × (m .place ≡ place)) ↔ FirstSourceless s a place
+  none place =
+      let t = first-place-means (fails (hasSource (served s)) a) 0 (a .width) (a .height) _ _ failing passing place in (
+        λ q. t .0 (none-found (firstFailing (hasSource (served s)) a) place searched (q .0) (q .1)),
+        λ p.
+            let said = searched ∙ ap (λ f. meaningOfImage (answerFound f)) (t .1 p) in
+            (ap (λ m. m .source) said, ap (λ m. m .place) said),
+      )
 
-  -- There is no third answer.
-  pub image-decides : (imageAnswer s a ≡ Yes) ⊎ Named s a
-  image-decides = by-found (firstFailing (hasSource (served s)) a) searched
+pub image-checks : (s : Setting) (a : Picture) → ChecksImage s a (meaningOfImage (imageAnswer s a))
+image-checks s a =
+    let r = image-refuses s a in
+    record {
+      refuses = r;
+      yes = λ e. yes s a (r .exactly .accepted e);
+      none = λ e. none s a (r .exactly .accepted e);
+      decides = λ e. by-found (firstFailing (hasSource (served s)) a) (searched s a (r .exactly .accepted e));
+    }

@@ -16,11 +16,12 @@ use Rattle.setting.specs.Matrix.{matrixOf}
 use Rattle.setting.specs.Agreement.{depthsServed, agree}
 use Rattle.setting.specs.declared.Setting.{Setting}
 use Rattle.plan.specs.Conversion.{convert}
+use Rattle.setting.specs.declared.Way.{Way}
 use Rattle.setting.specs.declared.Way.the-variants.{Forward, Reverse}
 use Rattle.admit.specs.Rules.{callAdmission}
 use Rattle.corkplover.specs.Answers.{pixelAnswer}
-use Rattle.corkplover.specs.declared.pixels.PixelAnswer.{PixelAnswer}
-use Rattle.corkplover.specs.declared.pixels.PixelAnswer.the-variants.{Converted}
+use Rattle.corkplover.specs.Meaning.{meaningOfPixel}
+use Rattle.promises.specs.Pixels.{samplesOf}
 
 -- a setting by its matrix, the depths of RGB, Y and C, and whether RGB and YCbCr are full; primaries and transfer are 1
 abbrev pub with : ℕ → ℕ → ℕ → ℕ → Bool → Bool → Setting
@@ -31,41 +32,41 @@ with m r y c rf yf =
 abbrev pub pixel : ℕ → ℕ → ℕ → Pixel
 pixel a b c = record { p0 = a; p1 = b; p2 = c }
 
-abbrev pub is : ℕ → ℕ → ℕ → PixelAnswer
-is a b c = Converted (pixel a b c)
+-- a row of the table: a conversion, and the pixel that it gives
+pub record Row : Type 0 where
+  pub way : Way
+  pub setting : Setting
+  pub from : Pixel
+  pub to : Pixel
 
-abbrev pub answers : List PixelAnswer
-answers =
-    pixelAnswer Forward (with 8 8 8 9 true true) (pixel 255 0 0)
-    ∷ pixelAnswer Forward (with 8 8 8 9 true true) (pixel 0 255 0)
-    ∷ pixelAnswer Forward (with 8 8 8 9 true true) (pixel 0 0 255)
-    ∷ pixelAnswer Reverse (with 8 8 8 9 true true) (pixel 63 129 511)
-    ∷ pixelAnswer Forward (with 15 8 10 10 true true) (pixel 255 0 0)
-    ∷ pixelAnswer Forward (with 8 8 8 8 true true) (pixel 0 255 0)
-    ∷ pixelAnswer Reverse (with 8 8 8 8 true true) (pixel 128 255 128)
-    ∷ pixelAnswer Forward (with 1 8 8 8 true true) (pixel 0 0 255)
-    ∷ pixelAnswer Reverse (with 1 8 8 8 true true) (pixel 18 255 116)
-    ∷ pixelAnswer Forward (with 1 8 8 8 true false) (pixel 0 0 255)
-    ∷ pixelAnswer Forward (with 1 10 8 8 false false) (pixel 1023 1023 1023)
-    ∷ pixelAnswer Forward (with 9 8 8 8 true true) (pixel 128 128 128)
+abbrev row : Way → Setting → Pixel → Pixel → Row
+row w s p q = record { way = w; setting = s; from = p; to = q }
+
+abbrev pub rows : List Row
+rows =
+    row Forward (with 8 8 8 9 true true) (pixel 255 0 0) (pixel 63 129 511)
+    ∷ row Forward (with 8 8 8 9 true true) (pixel 0 255 0) (pixel 127 511 256)
+    ∷ row Forward (with 8 8 8 9 true true) (pixel 0 0 255) (pixel 63 129 1)
+    ∷ row Reverse (with 8 8 8 9 true true) (pixel 63 129 511) (pixel 255 0 0)
+    ∷ row Forward (with 15 8 10 10 true true) (pixel 255 0 0) (pixel 63 385 767)
+    ∷ row Forward (with 8 8 8 8 true true) (pixel 0 255 0) (pixel 128 255 128)
+    ∷ row Reverse (with 8 8 8 8 true true) (pixel 128 255 128) (pixel 1 255 1)
+    ∷ row Forward (with 1 8 8 8 true true) (pixel 0 0 255) (pixel 18 255 116)
+    ∷ row Reverse (with 1 8 8 8 true true) (pixel 18 255 116) (pixel 0 0 254)
+    ∷ row Forward (with 1 8 8 8 true false) (pixel 0 0 255) (pixel 32 240 118)
+    ∷ row Forward (with 1 10 8 8 false false) (pixel 1023 1023 1023) (pixel 255 128 128)
+    ∷ row Forward (with 9 8 8 8 true true) (pixel 128 128 128) (pixel 128 128 128)
     ∷ []
 
-abbrev pub table : List PixelAnswer
-table =
-    is 63 129 511
-    ∷ is 127 511 256
-    ∷ is 63 129 1
-    ∷ is 255 0 0
-    ∷ is 63 385 767
-    ∷ is 128 255 128
-    ∷ is 1 255 1
-    ∷ is 18 255 116
-    ∷ is 0 0 254
-    ∷ is 32 240 118
-    ∷ is 255 128 128
-    ∷ is 128 128 128
-    ∷ []
+-- what the box answers to each row, and what each row says: no refusal, and the samples
+abbrev pub answered : List Row → List (List ℕ)
+answered [] = []
+answered (r ∷ rs) = let m = meaningOfPixel (pixelAnswer (r .way) (r .setting) (r .from)) in (m .number ∷ m .samples) ∷ answered rs
 
-pub marked : answers ≡ table
+abbrev pub said : List Row → List (List ℕ)
+said [] = []
+said (r ∷ rs) = (0 ∷ samplesOf (r .to)) ∷ said rs
+
+pub marked : answered rows ≡ said rows
 unfolding pixelAnswer callAdmission first matrixOf labelled among depthsServed agree areDepths isDepth atMost badSample firstPlace placeInRow placeIf firstOf orFound convert lossyForward lossyReverse losslessForward losslessReverse levelsForward levelsReverse lumaMatrix half round clip sample
 marked = refl

@@ -1,173 +1,197 @@
--- What an exported call packs into one number comes out again: the refusal and the place of every answer, and the samples of an accepted
--- pixel. So the promises on answers hold of the numbers that callers from other languages see.
-use mathlib.Core.Path.{_≡_, refl, sym, _∙_, subst}
+-- What an exported call packs into one number comes out again, whole: what a caller from another language reads off it means what the answer
+-- means. So every promise on answers holds of exports too.
+use mathlib.Core.Path.{_≡_, refl, sym, ap, _∙_}
+use mathlib.Core.Bool.{Bool, true, false, true≢false, cond}
 use mathlib.Core.List.{List, [], _∷_}
 use Prim.Native.Nat.{ℕ, _^_, _<_}
 use native.Mathlib.Omega.{arith}
-use Rattle.sample.specs.Depth.{Depth, mostDepth, InsideRGB, InsideYCC}
+use lib.Dec.{eqb}
+use Rattle.sample.specs.Depth.{Depth, mostDepth}
 use Rattle.sample.specs.declared.Pixel.{Pixel}
 use Rattle.sample.specs.declared.Side.{Side}
-use Rattle.sample.specs.declared.Side.the-variants.{Ycc}
-use Rattle.setting.specs.Call.{inputOf}
+use Rattle.sample.specs.declared.Side.the-variants.{Rgb, Ycc}
 use Rattle.sample.proofs.DepthLaws.{powers}
-use Rattle.refusal.specs.Rules.{Rule, first, numbered, badAt}
-use Rattle.refusal.specs.declared.Place.{Place}
+use Rattle.refusal.specs.Rules.{Rule, first, numbered, badAt, at}
 use Rattle.refusal.specs.declared.Check.the-variants.{Passed}
+use Rattle.refusal.specs.declared.Place.{Place}
 use Rattle.refusal.specs.declared.Refusal.{Refusal}
 use Rattle.refusal.proofs.RuleLaws.{EveryRule, first-has}
+use Rattle.planes.specs.Picture.{Picture, layoutOf}
+use Rattle.planes.specs.Sizes.{sizeRules}
 use Rattle.planes.specs.declared.search.Found.{Found}
 use Rattle.planes.specs.declared.search.Found.the-variants as found
-use Rattle.planes.specs.Sizes.{sizeRules}
 use Rattle.planes.specs.declared.size.Layout.{Layout}
 use Rattle.planes.proofs.SearchTheorems.{at-in-planes-means, at-means}
+use Rattle.planes.proofs.Searches.{first-place-means}
+use Rattle.planes.proofs.SizeTheorems as sizes
+use Rattle.setting.specs.Call.{inputOf}
 use Rattle.setting.specs.Rules.{depths, served, settingRules}
 use Rattle.setting.specs.declared.Call.{Call}
 use Rattle.setting.specs.declared.Call.the-variants as call
 use Rattle.setting.specs.declared.Setting.{Setting}
+use Rattle.setting.specs.declared.Way.{Way}
+use Rattle.setting.specs.declared.Way.the-variants as way
 use Rattle.setting.specs.declared.admission.Admission.{Admission}
 use Rattle.setting.specs.declared.admission.Admission.the-variants as admission
+use Rattle.setting.proofs.ReadyLaws.{ready}
 use Rattle.meter.specs.Level.{planeNumber}
 use Rattle.meter.specs.declared.SampleKind.{SampleKind}
 use Rattle.meter.specs.declared.SampleKind.the-variants as kind
 use Rattle.plan.specs.Conversion.{convert}
-use Rattle.setting.specs.declared.Way.{Way}
-use Rattle.setting.specs.declared.Way.the-variants.{Forward, Reverse}
-use Rattle.setting.proofs.ReadyLaws.{ready}
+use Rattle.plan.specs.Source.{hasSource}
 use Rattle.plan.proofs.ConversionTheorems.{forward-inside, reverse-inside}
 use Rattle.admit.specs.Rules.{callAdmission, beyondDepth, pixelPicture, topOf, badOne}
+use Rattle.admit.proofs.Accepted.{Accepted, accepted-of, all-fit, inside-exactly}
 use Rattle.admit.proofs.AdmitLaws.{each-answer}
+use Rattle.frame.specs.Frame.{frameBy, frameAnswer}
+use Rattle.image_check.specs.Image.{fails, firstFailing, answerFound, imageBy, imageAnswer}
 use Rattle.corkplover.specs.Answers.{convertedBy, pixelAnswer, readBy, reading, levelsReadBy, levelsAnswer}
+use Rattle.corkplover.specs.Meaning.{Meaning, meaningRefusal, meaningSamples, meaningSource, meaningUnless, meaningOfPixel, meaningOfReading, meaningOfLevels, meaningOfFrame, meaningOfImage, meaningInPixel, meaningInReading, meaningInLevels, meaningInFrame, meaningInImage}
+use Rattle.corkplover.specs.Packing.{packed, packedRefusal, packedPixel, packedReading, levelIn, packedLevels, yIn, cbIn, crIn, packedFrame, packedImage}
 use Rattle.corkplover.specs.declared.pixels.PixelAnswer.the-variants.{Converted}
-use Rattle.corkplover.specs.Meaning.{Meaning, meaningRefusal, meaningOfPixel, meaningOfReading, meaningOfLevels}
-use Rattle.corkplover.specs.Packing.{packed, numberIn, secondIn, firstIn, middleIn, lastIn, packedRefusal, packedPixel, packedReading, packedLevels}
-use Rattle.promises.proofs.Accepted.{accepted}
 use Rattle.promises.proofs.Fields.{fields}
 
--- the number that a call returns, and what its answer says
-pub record Unpacked (x : ℕ) (meaning : Meaning) : Type 0 where
-  pub number-out : numberIn x ≡ meaning .number
-  pub place-out : (meaning .number ≡ 0 → ⊥) → (secondIn x ≡ meaning .place .plane) × ((firstIn x ≡ meaning .place .row) × (middleIn x ≡ meaning .place .column))
+-- a refusal that the fields have room for, and that is told from none by its number
+record Small (r : Refusal) : Type 0 where
+  number-some : eqb (r .number) 0 ≡ false
+  number-small : r .number < 256
+  plane-small : r .place .plane < 256
+  row-small : r .place .row < 65536
+  column-small : r .place .column < 65536
 
--- a place that the fields have room for
-pub record PlaceFits (place : Place) : Type 0 where
-  pub plane-fits : place .plane < 256
-  pub row-fits : place .row < 65536
-  pub column-fits : place .column < 65536
-
-refusal-unpacked : (r : Refusal) → r .number < 256 → PlaceFits (r .place) → Unpacked (packedRefusal r) (meaningRefusal r)
-refusal-unpacked r h k =
-    let f = fields (r .number) (r .place .plane) (r .place .row) (r .place .column) 0 h (k .plane-fits) (k .row-fits) (k .column-fits) (omega arith) in
-    record { number-out = f .number-out; place-out = λ t. (f .second-out, (f .first-out, f .middle-out)) }
-
-pub free-unpacked : (x : ℕ) (meaning : Meaning) → numberIn x ≡ 0 → meaning .number ≡ 0 → Unpacked x meaning
-free-unpacked x meaning e f = record { number-out = e ∙ sym f; place-out = λ t. absurd (t f) }
-
--- a refusal that the fields have room for
-pub record Small (r : Refusal) : Type 0 where
-  pub number-small : r .number < 256
-  pub place-small : PlaceFits (r .place)
-
-nowhere-small : (n : ℕ) → n < 256 → Small (numbered n)
-nowhere-small n h = record { number-small = h; place-small = record { plane-fits = omega arith; row-fits = omega arith; column-fits = omega arith } }
+small-numbered : (n : ℕ) → eqb n 0 ≡ false → n < 256 → Small (numbered n)
+small-numbered n e h = record { number-some = e; number-small = h; plane-small = omega arith; row-small = omega arith; column-small = omega arith }
 
 setting-small : (c : Call) (s : Setting) → EveryRule Small (settingRules c s)
 setting-small c s =
-    let n = nowhere-small in
-    (n 1 (omega arith), (n 2 (omega arith), (n 3 (omega arith), (n 4 (omega arith), (n 5 (omega arith), (n 6 (omega arith), (n 7 (omega arith), (n 11 (omega arith), tt))))))))
+    let n = small-numbered in
+    (n 1 refl (omega arith), (n 2 refl (omega arith), (n 3 refl (omega arith), (n 4 refl (omega arith), (n 5 refl (omega arith), (n 6 refl (omega arith), (n 7 refl (omega arith), (n 11 refl (omega arith), tt))))))))
 
-pub sizes-small : (width height : ℕ) (layouts : List Layout) → EveryRule Small (sizeRules width height layouts)
-sizes-small width height layouts = (nowhere-small 8 (omega arith), (nowhere-small 9 (omega arith), tt))
+sizes-small : (width height : ℕ) (layouts : List Layout) → EveryRule Small (sizeRules width height layouts)
+sizes-small width height layouts = (small-numbered 8 refl (omega arith), (small-numbered 9 refl (omega arith), tt))
 
--- of any call, whatever was searched for a bad sample
-module _ (pack : Admission → ℕ) (say : Admission → Meaning) (c : Call) (s : Setting)
-    (free : Unpacked (pack (admission.Admitted (served s))) (say (admission.Admitted (served s))))
-    (packs : (r : Refusal) → pack (admission.Refused r) ≡ packedRefusal r) (refuses : (r : Refusal) → say (admission.Refused r) ≡ meaningRefusal r)
-    (sizes : List Rule) (small : EveryRule Small sizes) (bad : Found)
-    (fit : first sizes ≡ Passed → (place : Place) → bad ≡ found.At place → PlaceFits place)
+-- what a number means by whether its lowest bits are 0
+refused-means : (b : Bool) (m n : Meaning) → b ≡ false → cond b m n ≡ n
+refused-means true m n e = absurd (true≢false e)
+refused-means false m n e = refl
+
+free-means : (b : Bool) (m n : Meaning) → b ≡ true → cond b m n ≡ m
+free-means true m n e = refl
+free-means false m n e = absurd (true≢false (sym e))
+
+refusal-out : (r : Refusal) (m : Meaning) → Small r → meaningUnless (packedRefusal r) m ≡ meaningRefusal r
+refusal-out r m h =
+    let f = fields (r .number) (r .place .plane) (r .place .row) (r .place .column) 0 (h .number-small) (h .plane-small) (h .row-small) (h .column-small) (omega arith) in
+    refused-means _ m _ (ap (λ n. eqb n 0) (f .number-out) ∙ h .number-some)
+    ∙ (λ i. meaningRefusal (record { number = f .number-out i; place = at (f .second-out i) (f .first-out i) (f .middle-out i) }))
+
+-- ---- of any call: what is heard of it, and what it says
+
+module _ (heard say : Admission → Meaning) (c : Call) (s : Setting) (sizes : List Rule) (small : EveryRule Small sizes) (bad : Found)
+    (refused : (r : Refusal) → Small r → heard (admission.Refused r) ≡ say (admission.Refused r))
+    (fit : first sizes ≡ Passed → (place : Place) → bad ≡ found.At place → Small (badAt place))
+    (served-out : Accepted c s sizes bad → heard (admission.Admitted (served s)) ≡ say (admission.Admitted (served s)))
   where
     abbrev Out : Admission → Type 0
-    Out v = Unpacked (pack v) (say v)
+    Out v = (v ≡ admission.Admitted (served s) → heard v ≡ say v) → heard v ≡ say v
 
-    by-refusal : (r : Refusal) → Small r → Out (admission.Refused r)
-    by-refusal r h = rw (packs r, refuses r) (refusal-unpacked r (h .number-small) (h .place-small))
+    call-out : heard (callAdmission c s sizes bad) ≡ say (callAdmission c s sizes bad)
+    call-out =
+        each-answer Out c s sizes bad (λ r e f. refused r (first-has Small (settingRules c s) r (setting-small c s) e))
+        (λ r e f. refused r (first-has Small sizes r small e)) (λ e place g f. refused (badAt place) (fit e place g)) (λ f. f refl)
+        (λ e. rw e (served-out (accepted-of c s sizes bad (served s) e .0)))
 
-    pub call-unpacked : Out (callAdmission c s sizes bad)
-    call-unpacked =
-        each-answer Out c s sizes bad (λ r e. by-refusal r (first-has Small (settingRules c s) r (setting-small c s) e))
-        (λ r e. by-refusal r (first-has Small sizes r small e))
-        (λ e place f. by-refusal (badAt place) (record { number-small = omega arith; place-small = fit e place f })) free
+bad-small : (place : Place) → place .plane < 256 → place .row < 65536 → place .column < 65536 → Small (badAt place)
+bad-small place a b c = record { number-some = refl; number-small = omega arith; plane-small = a; row-small = b; column-small = c }
 
 -- ---- calls on a pixel or a sample
 
-pixel-fits : (side : Side) (s : Setting) (p : Pixel) (place : Place) → beyondDepth side (depths s) (pixelPicture p) ≡ found.At place → PlaceFits place
-pixel-fits side s p place e =
+bad-pixel : (side : Side) (s : Setting) (p : Pixel) (place : Place) → beyondDepth side (depths s) (pixelPicture p) ≡ found.At place → Small (badAt place)
+bad-pixel side s p place e =
     let b = at-in-planes-means (pixelPicture p) _ place .0 e in
-    record { plane-fits = omega (arith, b .plane-inside); row-fits = omega (arith, b .first-there .row-inside); column-fits = omega (arith, b .first-there .column-inside) }
-
--- samples leave the number alone
-samples-above : (a b c : ℕ) → numberIn (packed 0 0 a b c) ≡ 0
-samples-above a b c = omega arith
-
-pub pixel-unpacked : (w : Way) (s : Setting) (p : Pixel) → Unpacked (packedPixel (pixelAnswer w s p)) (meaningOfPixel (pixelAnswer w s p))
-unfolding pixelAnswer
-pixel-unpacked w s p =
-    let q = convert w (served s) p in
-    call-unpacked (λ v. packedPixel (convertedBy w p v)) (λ v. meaningOfPixel (convertedBy w p v)) (call.Convert w) s
-    (free-unpacked _ _ (samples-above (q .p0) (q .p1) (q .p2)) refl) (λ r. refl) (λ r. refl) [] tt _ (λ z. pixel-fits (inputOf w) s p)
-
-pub levels-unpacked : (s : Setting) (p : Pixel) → Unpacked (packedLevels (levelsAnswer s p)) (meaningOfLevels (levelsAnswer s p))
-unfolding levelsAnswer
-levels-unpacked s p =
-    call-unpacked (λ v. packedLevels (levelsReadBy p v)) (λ v. meaningOfLevels (levelsReadBy p v)) call.Meter s (free-unpacked _ _ refl refl) (λ r. refl)
-    (λ r. refl) [] tt _ (λ z. pixel-fits Ycc s p)
-
-kind-fits : (k : SampleKind) → planeNumber k < 256
-kind-fits kind.Y = omega arith
-kind-fits kind.Cb = omega arith
-kind-fits kind.Cr = omega arith
-
-sample-fits : (k : SampleKind) (s : Setting) (v : ℕ) (place : Place) → badOne k (depths s) v ≡ found.At place → PlaceFits place
-sample-fits k s v place e =
-    let b = at-means (v ∷ []) (planeNumber k) 1 1 1 (topOf k (depths s)) place .0 e in
-    record {
-      plane-fits = subst (λ n. n < 256) (sym (b .plane-is)) (kind-fits k);
-      row-fits = omega (arith, b .row-inside);
-      column-fits = omega (arith, b .column-inside);
-    }
-
-pub reading-unpacked : (k : SampleKind) (s : Setting) (v : ℕ) → Unpacked (packedReading (reading k s v)) (meaningOfReading (reading k s v))
-unfolding reading
-reading-unpacked k s v =
-    call-unpacked (λ d. packedReading (readBy k v d)) (λ d. meaningOfReading (readBy k v d)) call.Meter s (free-unpacked _ _ refl refl) (λ r. refl)
-    (λ r. refl) [] tt _ (λ z. sample-fits k s v)
+    bad-small place (omega (arith, b .plane-inside)) (omega (arith, b .first-there .row-inside)) (omega (arith, b .first-there .column-inside))
 
 -- the samples of an accepted pixel
 below : (d v : ℕ) → Depth d → v < 2 ^ d → v < 65536
 below d v h l = let p = powers d mostDepth (h .least) (h .most) in omega arith
 
-samples-out : (q : Pixel) → q .p0 < 65536 → q .p1 < 65536 → q .p2 < 65536
-    → (firstIn (packedPixel (Converted q)) ≡ q .p0) × ((middleIn (packedPixel (Converted q)) ≡ q .p1) × (lastIn (packedPixel (Converted q)) ≡ q .p2))
+samples-out : (q : Pixel) → q .p0 < 65536 → q .p1 < 65536 → q .p2 < 65536 → meaningInPixel (packedPixel (Converted q)) ≡ meaningOfPixel (Converted q)
 samples-out q h k l =
     let f = fields 0 0 (q .p0) (q .p1) (q .p2) (omega arith) (omega arith) h k l in
-    (f .first-out, (f .middle-out, f .last-out))
+    free-means _ _ _ (ap (λ n. eqb n 0) (f .number-out)) ∙ (λ i. meaningSamples (f .first-out i ∷ f .middle-out i ∷ f .last-out i ∷ []))
 
-module _ (s : Setting) (p : Pixel) where
-  pub forward-samples : first (settingRules (call.Convert Forward) s) ≡ Passed → InsideRGB (depths s) p
-      → let q = convert Forward (served s) p in
-      let x = packedPixel (pixelAnswer Forward s p) in
-      (firstIn x ≡ q .p0) × ((middleIn x ≡ q .p1) × (lastIn x ≡ q .p2))
-  forward-samples e h =
-      let r = ready (call.Convert Forward) s e in
-      let i = forward-inside (served s) p r h in
-      rw (accepted Forward s p e h)
-      (samples-out (convert Forward (served s) p) (below _ _ (r .three .luma) (i .in0)) (below _ _ (r .three .chroma) (i .in1)) (below _ _ (r .three .chroma) (i .in2)))
+pixel-out : (w : Way) (s : Setting) (p : Pixel) → Accepted (call.Convert w) s [] (beyondDepth (inputOf w) (depths s) (pixelPicture p))
+    → let q = convert w (served s) p in meaningInPixel (packedPixel (Converted q)) ≡ meaningOfPixel (Converted q)
+pixel-out way.Forward s p a =
+    let r = ready (call.Convert way.Forward) s (a .setting) in
+    let i = forward-inside (served s) p r (inside-exactly Rgb (depths s) (pixelPicture p) .0 (a .samples) 0 0 (omega arith) (omega arith)) in
+    samples-out _ (below _ _ (r .three .luma) (i .in0)) (below _ _ (r .three .chroma) (i .in1)) (below _ _ (r .three .chroma) (i .in2))
+pixel-out way.Reverse s p a =
+    let r = ready (call.Convert way.Reverse) s (a .setting) in
+    let i = reverse-inside (served s) p r (inside-exactly Ycc (depths s) (pixelPicture p) .0 (a .samples) 0 0 (omega arith) (omega arith)) in
+    samples-out _ (below _ _ (r .three .rgb) (i .in0)) (below _ _ (r .three .rgb) (i .in1)) (below _ _ (r .three .rgb) (i .in2))
 
-  pub reverse-samples : first (settingRules (call.Convert Reverse) s) ≡ Passed → InsideYCC (depths s) p
-      → let q = convert Reverse (served s) p in
-      let x = packedPixel (pixelAnswer Reverse s p) in
-      (firstIn x ≡ q .p0) × ((middleIn x ≡ q .p1) × (lastIn x ≡ q .p2))
-  reverse-samples e h =
-      let r = ready (call.Convert Reverse) s e in
-      let i = reverse-inside (served s) p r h in
-      rw (accepted Reverse s p e h)
-      (samples-out (convert Reverse (served s) p) (below _ _ (r .three .rgb) (i .in0)) (below _ _ (r .three .rgb) (i .in1)) (below _ _ (r .three .rgb) (i .in2)))
+pub pixel-unpacked : (w : Way) (s : Setting) (p : Pixel) → meaningInPixel (packedPixel (pixelAnswer w s p)) ≡ meaningOfPixel (pixelAnswer w s p)
+unfolding pixelAnswer
+pixel-unpacked w s p =
+    call-out (λ v. meaningInPixel (packedPixel (convertedBy w p v))) (λ v. meaningOfPixel (convertedBy w p v)) (call.Convert w) s [] tt _
+    (λ r. refusal-out r _) (λ z. bad-pixel (inputOf w) s p) (pixel-out w s p)
+
+pub levels-unpacked : (s : Setting) (p : Pixel)
+    → let l = levelsAnswer s p in meaningInLevels (packedLevels l) (yIn l) (cbIn l) (crIn l) ≡ meaningOfLevels l
+unfolding levelsAnswer
+levels-unpacked s p =
+    call-out (λ v. let l = levelsReadBy p v in meaningInLevels (packedLevels l) (yIn l) (cbIn l) (crIn l)) (λ v. meaningOfLevels (levelsReadBy p v))
+    call.Meter s [] tt _ (λ r. refusal-out r _) (λ z. bad-pixel Ycc s p) (λ a. refl)
+
+kind-small : (k : SampleKind) → planeNumber k < 256
+kind-small kind.Y = omega arith
+kind-small kind.Cb = omega arith
+kind-small kind.Cr = omega arith
+
+bad-one : (k : SampleKind) (s : Setting) (v : ℕ) (place : Place) → badOne k (depths s) v ≡ found.At place → Small (badAt place)
+bad-one k s v place e =
+    let b = at-means (v ∷ []) (planeNumber k) 1 1 1 (topOf k (depths s)) place .0 e in
+    bad-small place (omega (arith, kind-small k, b .plane-is)) (omega (arith, b .row-inside)) (omega (arith, b .column-inside))
+
+pub reading-unpacked : (k : SampleKind) (s : Setting) (v : ℕ)
+    → let l = reading k s v in meaningInReading (packedReading l) (levelIn l) ≡ meaningOfReading l
+unfolding reading
+reading-unpacked k s v =
+    call-out (λ d. let l = readBy k v d in meaningInReading (packedReading l) (levelIn l)) (λ d. meaningOfReading (readBy k v d)) call.Meter s [] tt _
+    (λ r. refusal-out r _) (λ z. bad-one k s v) (λ a. refl)
+
+-- ---- calls on a picture
+
+bad-in : (side : Side) (s : Setting) (a : Picture) (others : List Layout) → first (sizeRules (a .width) (a .height) (layoutOf a ∷ others)) ≡ Passed
+    → (place : Place) → beyondDepth side (depths s) a ≡ found.At place → Small (badAt place)
+bad-in side s a others z place e =
+    let sized = sizes.fits _ _ _ z .0 .sized in
+    let b = at-in-planes-means a _ place .0 e in
+    bad-small place (omega (arith, b .plane-inside)) (omega (arith, b .first-there .row-inside, sized .height-within .to-most))
+    (omega (arith, b .first-there .column-inside, sized .width-within .to-most))
+
+pub frame-unpacked : (w : Way) (s : Setting) (a : Picture) (b : Layout) → meaningInFrame (packedFrame (frameAnswer w s a b)) ≡ meaningOfFrame (frameAnswer w s a b)
+unfolding frameAnswer
+frame-unpacked w s a b =
+    call-out (λ v. meaningInFrame (packedFrame (frameBy v))) (λ v. meaningOfFrame (frameBy v)) (call.Convert w) s _
+    (sizes-small (a .width) (a .height) (layoutOf a ∷ b ∷ [])) _ (λ r. refusal-out r _) (bad-in (inputOf w) s a (b ∷ [])) (λ k. refl)
+
+-- the image check's word: yes, or a pixel inside a picture of a served size
+word-out : (test : _) (a : Picture) (f : Found) → firstFailing test a ≡ f → a .height < 65536 → a .width < 65536
+    → meaningInImage (packedImage (answerFound f)) ≡ meaningOfImage (answerFound f)
+word-out test a (found.At place) e h w =
+    let b = first-place-means (fails test a) 0 (a .width) (a .height) (λ j i. fails test a j i ≡ true) (λ j i. fails test a j i ≡ false) (λ j i x y. (λ q. q, λ q. q)) (λ j i x y. (λ q. q, λ q. q)) place .0 e in
+    let f = fields 0 1 (place .row) (place .column) 0 (omega arith) (omega arith) (omega (arith, b .row-inside)) (omega (arith, b .column-inside)) (omega arith) in
+    free-means _ _ _ (ap (λ n. eqb n 0) (f .number-out))
+    ∙ (λ i. meaningSource (eqb (f .second-out i) 0) (at (sym (b .plane-is) i) (f .first-out i) (f .middle-out i)))
+word-out test a found.Nothing e h w = refl
+
+pub image-unpacked : (s : Setting) (a : Picture) → meaningInImage (packedImage (imageAnswer s a)) ≡ meaningOfImage (imageAnswer s a)
+unfolding imageAnswer
+image-unpacked s a =
+    call-out (λ v. meaningInImage (packedImage (imageBy v a))) (λ v. meaningOfImage (imageBy v a)) call.ImageCheck s _
+    (sizes-small (a .width) (a .height) (layoutOf a ∷ [])) _ (λ r. refusal-out r _) (bad-in Ycc s a [])
+    (λ k.
+    let sized = sizes.fits _ _ _ (k .sizes-pass) .0 .sized in
+    word-out (hasSource (served s)) a (firstFailing (hasSource (served s)) a) refl (omega (arith, sized .height-within .to-most)) (omega (arith, sized .width-within .to-most)))

@@ -7,7 +7,7 @@ use native.Mathlib.Omega.{arith}
 use lib.ListN.{getD}
 use Rattle.rounding.specs.Rounding.{half, clip, sample}
 use Rattle.sample.specs.Depth.{isDepth, areDepths, atMost}
-use Rattle.refusal.specs.Rules.{first, at}
+use Rattle.refusal.specs.Rules.{first, at, numbered}
 use Rattle.refusal.specs.declared.Place.{Place}
 use Rattle.refusal.specs.declared.Refusal.{Refusal}
 use Rattle.planes.specs.First.{orFound, firstOf, placeIf, placeInRow, firstPlace, badSample}
@@ -57,6 +57,11 @@ whole-frame = refl
 pub refused-frame : left (with 17 8 8 9 true true) input output ≡ (0 ∷ 0 ∷ 0 ∷ 0 ∷ []) ∷ (0 ∷ 0 ∷ 0 ∷ 0 ∷ []) ∷ (0 ∷ 0 ∷ 0 ∷ 0 ∷ []) ∷ []
 unfolding outPlane callAdmission first matrixOf labelled among depthsServed agree areDepths isDepth atMost sizeOutside outside someLayout layoutShort anyShort badSample firstPlace placeInRow placeIf firstOf orFound tab
 refused-frame = refl
+
+-- a setting that is refused is, whatever the sizes are
+pub setting-before-sizes : frameAnswer Forward (with 17 8 8 9 true true) (picture 0 0 0 [] [] []) (layout 0 0 0 0) ≡ Refused (numbered 1)
+unfolding frameAnswer callAdmission first matrixOf
+setting-before-sizes = refl
 
 -- red above green, one pixel wide
 abbrev tall : Picture

@@ -102,11 +102,11 @@ module _ (call : Call) (s : Setting) (e : first (settingRules call s) ≡ Passed
   unfolding depthsServed
   at-most = at-most-of _ _ (both-true (areDepths (s .«rgb_depth») (s .«y_depth») (s .«c_depth»)) _ rule-6 .1)
 
-  bonded-so : bonded (entry s .bond) d (s .«rgb_full») (s .«ycc_full») ≡ true
+  pub bonded-so : bonded (entry s .bond) d (s .«rgb_full») (s .«ycc_full») ≡ true
   unfolding agree
   bonded-so = both-true _ _ rule-7 .0
 
-  deeper : (d .luma .0 ≤ d .chroma .0) × (d .chroma .0 ≤ d .luma .0 + entry s .«chroma_bits»)
+  pub deeper : (d .luma .0 ≤ d .chroma .0) × (d .chroma .0 ≤ d .luma .0 + entry s .«chroma_bits»)
   unfolding agree
   deeper =
       let u = both-true (bonded (entry s .bond) d (s .«rgb_full») (s .«ycc_full»)) _ rule-7 .1 in

@@ -1,0 +1,200 @@
+-- Demand 1 on refusals. It is shown once of any call's rules, and then read off the answer of each kind of call.
+use mathlib.Core.Path.{_≡_, refl, sym, ap, _∙_, subst}
+use mathlib.Core.Bool.{Bool, true, false, cond}
+use mathlib.Core.List.{List, [], _∷_, _++_}
+use Prim.Native.Nat.{ℕ}
+use native.Mathlib.Omega.{arith}
+use borrow.Author.Tests.{eqb-false}
+use lib.Dec.{eqb}
+use Rattle.sample.specs.declared.Pixel.{Pixel}
+use Rattle.sample.specs.declared.Side.the-variants.{Ycc}
+use Rattle.refusal.specs.Rules.{Rule, first, FirstIs, NoneApplies, nowhere, numbered}
+use Rattle.refusal.specs.declared.Check.{Check}
+use Rattle.refusal.specs.declared.Check.the-variants as check
+use Rattle.refusal.specs.declared.Place.{Place}
+use Rattle.refusal.specs.declared.Refusal.{Refusal}
+use Rattle.refusal.proofs.RuleLaws.{EveryRule, first-has, never-both, same-refusal, refused-exactly, passed-exactly}
+use Rattle.setting.specs.Call.{inputOf}
+use Rattle.setting.specs.Rules.{served, settingRules, admitted}
+use Rattle.setting.specs.declared.Call.{Call}
+use Rattle.setting.specs.declared.Call.the-variants as call
+use Rattle.setting.specs.declared.Setting.{Setting}
+use Rattle.setting.specs.declared.Way.{Way}
+use Rattle.setting.specs.declared.admission.Admission.{Admission}
+use Rattle.setting.specs.declared.admission.Admission.the-variants as admission
+use Rattle.setting.specs.declared.admission.Served.{Served}
+use Rattle.meter.specs.Level.{planeNumber}
+use Rattle.meter.specs.declared.SampleKind.{SampleKind}
+use Rattle.planes.specs.First.{badRule}
+use Rattle.planes.specs.Picture.{Picture, layoutOf}
+use Rattle.planes.specs.Sizes.{sizeRules}
+use Rattle.planes.specs.declared.search.Found.{Found}
+use Rattle.planes.specs.declared.search.Found.the-variants as found
+use Rattle.planes.specs.declared.size.Layout.{Layout}
+use Rattle.planes.proofs.SearchTheorems.{at-in-planes-means, at-means}
+use Rattle.plan.specs.Source.{hasSource}
+use Rattle.admit.specs.Rules.{callRules, callAdmission, pictureRules, pixelRules, sampleRules, pixelPicture, topOf}
+use Rattle.admit.proofs.Accepted.{Accepted, accepted-of, of-accepted}
+use Rattle.admit.proofs.AdmitLaws.{admitted-passed, each-answer}
+use Rattle.setting.specs.Rules.{depths}
+use Rattle.frame.specs.Frame.{frameBy, frameAnswer}
+use Rattle.image_check.specs.Image.{firstFailing, answerFound, imageBy, imageAnswer}
+use Rattle.corkplover.specs.Answers.{convertedBy, pixelAnswer, sourceBy, sourceAnswer, readBy, reading, levelsReadBy, levelsAnswer}
+use Rattle.corkplover.specs.Meaning.{Meaning, meaningRefusal, meaningOfPixel, meaningOfSource, meaningOfReading, meaningOfLevels, meaningOfFrame, meaningOfImage}
+use Rattle.corkplover.specs.declared.pixels.SourceAnswer.the-variants as source
+use Rattle.promises.specs.Refusing.{Exactly, NamesPlace, Refuses, BadIn, BadPixel, BadSampleOf}
+
+-- rules whose numbers are not 0
+abbrev Numbered : List Rule → Type 0
+Numbered rs = EveryRule (λ x. eqb (x .number) 0 ≡ false) rs
+
+not-zero : (rs : List Rule) (x : Refusal) → Numbered rs → first rs ≡ check.Refused x → x .number ≡ 0 → ⊥
+not-zero rs x h e q = eqb-false (x .number) 0 (first-has _ rs x h e) q
+
+all-numbered : (call : Call) (s : Setting) (sizes : List Rule) (bad : Found) → Numbered sizes → Numbered (callRules call s sizes bad)
+all-numbered call s sizes bad h = (refl, (refl, (refl, (refl, (refl, (refl, (refl, (refl, rest sizes h))))))))
+  where
+    last : (f : Found) → Numbered (badRule f ∷ [])
+    last (found.At place) = (refl, tt)
+    last found.Nothing = (refl, tt)
+
+    rest : (rs : List Rule) → Numbered rs → Numbered (rs ++ (badRule bad ∷ []))
+    rest [] h = last bad
+    rest (r ∷ rs) h = (h .0, rest rs (h .1))
+
+-- a refusal that is neither 0 nor 10 and names no place
+record Other (x : Refusal) : Type 0 where
+  not-0 : eqb (x .number) 0 ≡ false
+  not-10 : eqb (x .number) 10 ≡ false
+  no-place : x .place ≡ nowhere
+
+other : (n : ℕ) → eqb n 0 ≡ false → eqb n 10 ≡ false → Other (numbered n)
+other n e f = record { not-0 = e; not-10 = f; no-place = refl }
+
+setting-others : (c : Call) (s : Setting) → EveryRule Other (settingRules c s)
+setting-others c s =
+    let o = other in
+    (o 1 refl refl, (o 2 refl refl, (o 3 refl refl, (o 4 refl refl, (o 5 refl refl, (o 6 refl refl, (o 7 refl refl, (o 11 refl refl, tt))))))))
+
+size-others : (width height : ℕ) (layouts : List Layout) → EveryRule Other (sizeRules width height layouts)
+size-others width height layouts = (other 8 refl refl, (other 9 refl refl, tt))
+
+numbered-others : (rs : List Rule) → EveryRule Other rs → Numbered rs
+numbered-others [] h = tt
+numbered-others (r ∷ rs) h = (h .0 .not-0, numbered-others rs (h .1))
+
+-- what no rule refuses is let in
+pub none-admitted : (c : Call) (s : Setting) (sizes : List Rule) (bad : Found) → NoneApplies (callRules c s sizes bad)
+    → callAdmission c s sizes bad ≡ admission.Admitted (served s)
+unfolding callAdmission
+none-admitted c s sizes bad h = ap (λ k. admitted k (served s)) (passed-exactly _ .1 h)
+
+-- and the refusal of the first rule that applies is given
+pub first-refused : (c : Call) (s : Setting) (sizes : List Rule) (bad : Found) (r : Refusal) → FirstIs r (callRules c s sizes bad)
+    → callAdmission c s sizes bad ≡ admission.Refused r
+unfolding callAdmission
+first-refused c s sizes bad r h = ap (λ k. admitted k (served s)) (refused-exactly _ r .1 h)
+
+pub none-accepted : (c : Call) (s : Setting) (sizes : List Rule) (bad : Found) → NoneApplies (callRules c s sizes bad) → Accepted c s sizes bad
+none-accepted c s sizes bad h = accepted-of c s sizes bad (served s) (none-admitted c s sizes bad h) .0
+
+pub accepted-none : (c : Call) (s : Setting) (sizes : List Rule) (bad : Found) → Accepted c s sizes bad → NoneApplies (callRules c s sizes bad)
+unfolding callAdmission
+accepted-none c s sizes bad k = passed-exactly _ .0 (admitted-passed _ (served s) (served s) (of-accepted c s sizes bad k) .0)
+
+-- an answer that says of every refusal what it is, and of nothing else that it is one
+module _ (say : Admission → Meaning) (free : (x : Served) → say (admission.Admitted x) .number ≡ 0)
+    (refuses : (r : Refusal) → say (admission.Refused r) ≡ meaningRefusal r)
+  where
+    by-check : (rules : List Rule) (x : Served) → Numbered rules → (c : Check) → first rules ≡ c → Exactly (say (admitted c x)) rules
+    by-check rules x h check.Passed e =
+        record {
+          given = λ n. absurd (n (free x));
+          only = λ y f. absurd (never-both y (sym e ∙ refused-exactly rules y .1 f));
+          accepted = λ n. passed-exactly rules .0 e;
+          free = λ n. free x;
+        }
+    by-check rules x h (check.Refused r) e =
+        record {
+          given = λ n. record { refusal = r; is-first = refused-exactly rules r .0 e; is = refuses r };
+          only = λ y f. refuses r ∙ ap meaningRefusal (same-refusal (sym e ∙ refused-exactly rules y .1 f));
+          accepted = λ n. absurd (not-zero rules r h e (sym (ap (λ m. m .number) (refuses r)) ∙ n));
+          free = λ n. absurd (never-both r (sym (passed-exactly rules .1 n) ∙ e));
+        }
+
+    module _ (c : Call) (s : Setting) (sizes : List Rule) (h : EveryRule Other sizes) (bad : Found) (Bad : Place → Type 0)
+        (means : (place : Place) → bad ≡ found.At place → Bad place)
+      where
+        answered : Exactly (say (callAdmission c s sizes bad)) (callRules c s sizes bad)
+        unfolding callAdmission
+        answered = by-check (callRules c s sizes bad) (served s) (all-numbered c s sizes bad (numbered-others sizes h)) _ refl
+
+        abbrev Names : Admission → Type 0
+        Names v = NamesPlace Bad (say v)
+
+        other-names : (r : Refusal) → Other r → Names (admission.Refused r)
+        other-names r o =
+            subst (NamesPlace Bad) (sym (refuses r))
+            (record { ten = λ t. absurd (eqb-false _ _ (o .not-10) t); other = λ t u. o .no-place; alone = λ t. (refl, (refl, refl)) })
+
+        named : Names (callAdmission c s sizes bad)
+        named =
+            let e = free (served s) in
+            each-answer Names c s sizes bad (λ r f. other-names r (first-has Other (settingRules c s) r (setting-others c s) f))
+            (λ r f. other-names r (first-has Other sizes r h f))
+            (λ f place g.
+            subst (NamesPlace Bad) (sym (refuses _))
+            (record { ten = λ t. means place g; other = λ t u. absurd (u refl); alone = λ t. (refl, (refl, refl)) }))
+            (record { ten = λ t. absurd (omega arith); other = λ t u. absurd (t e); alone = λ t. absurd (t e) })
+
+        call-refuses : Refuses (callRules c s sizes bad) Bad (say (callAdmission c s sizes bad))
+        call-refuses = record { exactly = answered; places = named }
+
+-- ---- each kind of call
+
+-- the source checks' word is no refusal
+picked-number : (b : Bool) → meaningOfSource (cond b source.Yes source.NoSource) .number ≡ 0
+picked-number true = refl
+picked-number false = refl
+
+found-number : (f : Found) → meaningOfImage (answerFound f) .number ≡ 0
+found-number (found.At place) = refl
+found-number found.Nothing = refl
+
+pub pixel-refuses : (w : Way) (s : Setting) (p : Pixel)
+    → Refuses (pixelRules (call.Convert w) s p) (BadPixel (inputOf w) s p) (meaningOfPixel (pixelAnswer w s p))
+unfolding pixelAnswer
+pixel-refuses w s p =
+    call-refuses (λ v. meaningOfPixel (convertedBy w p v)) (λ x. refl) (λ r. refl) (call.Convert w) s [] tt _ _
+    (λ place e. at-in-planes-means (pixelPicture p) _ place .0 e)
+
+pub source-refuses : (s : Setting) (p : Pixel) → Refuses (pixelRules call.ImageCheck s p) (BadPixel Ycc s p) (meaningOfSource (sourceAnswer s p))
+unfolding sourceAnswer
+source-refuses s p =
+    call-refuses (λ v. meaningOfSource (sourceBy p v)) (λ x. picked-number (hasSource x p)) (λ r. refl) call.ImageCheck s [] tt _ _
+    (λ place e. at-in-planes-means (pixelPicture p) _ place .0 e)
+
+pub reading-refuses : (k : SampleKind) (s : Setting) (v : ℕ) → Refuses (sampleRules k s v) (BadSampleOf k s v) (meaningOfReading (reading k s v))
+unfolding reading
+reading-refuses k s v =
+    call-refuses (λ d. meaningOfReading (readBy k v d)) (λ x. refl) (λ r. refl) call.Meter s [] tt _ _
+    (λ place e. at-means (v ∷ []) (planeNumber k) 1 1 1 (topOf k (depths s)) place .0 e)
+
+pub levels-refuses : (s : Setting) (p : Pixel) → Refuses (pixelRules call.Meter s p) (BadPixel Ycc s p) (meaningOfLevels (levelsAnswer s p))
+unfolding levelsAnswer
+levels-refuses s p =
+    call-refuses (λ v. meaningOfLevels (levelsReadBy p v)) (λ x. refl) (λ r. refl) call.Meter s [] tt _ _
+    (λ place e. at-in-planes-means (pixelPicture p) _ place .0 e)
+
+pub frame-refuses : (w : Way) (s : Setting) (a : Picture) (b : Layout)
+    → Refuses (pictureRules (call.Convert w) s a (b ∷ [])) (BadIn (inputOf w) s a) (meaningOfFrame (frameAnswer w s a b))
+unfolding frameAnswer
+frame-refuses w s a b =
+    call-refuses (λ v. meaningOfFrame (frameBy v)) (λ x. refl) (λ r. refl) (call.Convert w) s (sizeRules (a .width) (a .height) (layoutOf a ∷ b ∷ []))
+    (size-others (a .width) (a .height) (layoutOf a ∷ b ∷ [])) _ _ (λ place e. at-in-planes-means a _ place .0 e)
+
+pub image-refuses : (s : Setting) (a : Picture) → Refuses (pictureRules call.ImageCheck s a []) (BadIn Ycc s a) (meaningOfImage (imageAnswer s a))
+unfolding imageAnswer
+image-refuses s a =
+    call-refuses (λ v. meaningOfImage (imageBy v a)) (λ x. found-number (firstFailing (hasSource x) a)) (λ r. refl) call.ImageCheck s
+    (sizeRules (a .width) (a .height) (layoutOf a ∷ [])) (size-others (a .width) (a .height) (layoutOf a ∷ [])) _ _ (λ place e. at-in-planes-means a _ place .0 e)

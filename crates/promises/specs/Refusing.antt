@@ -1,0 +1,55 @@
+-- Demand 1 on refusals: each is given exactly if its rule says, a 10 names the first bad sample, and no refusal gives anything else.
+use mathlib.Core.Path.{_≡_}
+use mathlib.Core.List.{List, [], _∷_}
+use Prim.Native.Nat.{ℕ}
+use Rattle.refusal.specs.Rules.{Rule, FirstIs, NoneApplies, nowhere}
+use Rattle.refusal.specs.declared.Place.{Place}
+use Rattle.refusal.specs.declared.Refusal.{Refusal}
+use Rattle.sample.specs.Depth.{tops}
+use Rattle.sample.specs.declared.Pixel.{Pixel}
+use Rattle.sample.specs.declared.Side.{Side}
+use Rattle.setting.specs.Rules.{depths}
+use Rattle.setting.specs.declared.Setting.{Setting}
+use Rattle.meter.specs.Level.{planeNumber}
+use Rattle.meter.specs.declared.SampleKind.{SampleKind}
+use Rattle.planes.specs.First.{IsBadSample, IsFirstBad}
+use Rattle.planes.specs.Picture.{Picture}
+use Rattle.admit.specs.Rules.{pixelPicture, topOf}
+use Rattle.corkplover.specs.Meaning.{Meaning, meaningRefusal}
+
+-- what an answer means, held to a list of rules
+pub record RefusedBy (m : Meaning) (rules : List Rule) : Type 0 where
+  pub refusal : Refusal
+  pub is-first : FirstIs refusal rules
+  pub is : m ≡ meaningRefusal refusal
+
+pub record Exactly (m : Meaning) (rules : List Rule) : Type 0 where
+  pub given : (m .number ≡ 0 → ⊥) → RefusedBy m rules
+  pub only : (x : Refusal) → FirstIs x rules → m ≡ meaningRefusal x
+  pub accepted : m .number ≡ 0 → NoneApplies rules
+  pub free : NoneApplies rules → m .number ≡ 0
+
+-- no samples, no levels and no word on a source
+abbrev pub GivesNothing : Meaning → Type 0
+GivesNothing m = (m .samples ≡ []) × ((m .levels ≡ []) × (m .source ≡ []))
+
+-- what an answer may say beside its number, where Bad tells a first bad sample
+pub record NamesPlace (Bad : Place → Type 0) (m : Meaning) : Type 0 where
+  pub ten : m .number ≡ 10 → Bad (m .place)
+  pub other : (m .number ≡ 0 → ⊥) → (m .number ≡ 10 → ⊥) → m .place ≡ nowhere
+  pub alone : (m .number ≡ 0 → ⊥) → GivesNothing m
+
+-- THE promise on the refusals of a call
+pub record Refuses (rules : List Rule) (Bad : Place → Type 0) (m : Meaning) : Type 0 where
+  pub exactly : Exactly m rules
+  pub places : NamesPlace Bad m
+
+-- what rule 10 names: a bad sample of a picture, of a pixel of a side, or one sample by its kind
+abbrev pub BadIn : Side → Setting → Picture → Place → Type 0
+BadIn side s a = IsBadSample a (tops side (depths s))
+
+abbrev pub BadPixel : Side → Setting → Pixel → Place → Type 0
+BadPixel side s p = BadIn side s (pixelPicture p)
+
+abbrev pub BadSampleOf : SampleKind → Setting → ℕ → Place → Type 0
+BadSampleOf k s v = IsFirstBad (v ∷ []) (planeNumber k) 1 1 1 (topOf k (depths s))
