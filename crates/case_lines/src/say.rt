@@ -29,7 +29,7 @@ fn refusal(r: Refusal) {
     let place = r.place;
     words(b"refused ");
     number(n as u64);
-    if n == 10 {
+    if n == Refusal::SAMPLE_BEYOND_DEPTH {
         words(b" plane ");
         number(place.plane as u64);
         words(b" row ");

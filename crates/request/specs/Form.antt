@@ -29,6 +29,13 @@ use Rattle.request.specs.declared.form.ReadPixel.{ReadPixel}
 abbrev pub clear : ℕ
 clear = 255
 
+-- the largest code or depth that a word may say, and the largest sample
+abbrev pub largestByte : ℕ
+largestByte = 255
+
+abbrev pub largestSample : ℕ
+largestSample = 65535
+
 -- word n as a number, after words that had a fault or none
 abbrev pub taken : ℕ → ℕ → Number → ReadNumber
 taken n fault (number.Value v) = record { value = v; fault = fault }
@@ -51,12 +58,12 @@ endOfWords gap s n fault = cond (ltb n (length (split gap s))) (min fault n) fau
 -- words 1 to 8
 unfoldable pub settingWords : ℕ → List ℕ → List ℕ → ReadSetting
 settingWords gap s ranges =
-    let primaries = numberWord gap s 1 255 clear in
-    let transfer = numberWord gap s 2 255 (primaries .fault) in
-    let matrix = numberWord gap s 3 255 (transfer .fault) in
-    let rgb = numberWord gap s 4 255 (matrix .fault) in
-    let y = numberWord gap s 5 255 (rgb .fault) in
-    let c = numberWord gap s 6 255 (y .fault) in
+    let primaries = numberWord gap s 1 largestByte clear in
+    let transfer = numberWord gap s 2 largestByte (primaries .fault) in
+    let matrix = numberWord gap s 3 largestByte (transfer .fault) in
+    let rgb = numberWord gap s 4 largestByte (matrix .fault) in
+    let y = numberWord gap s 5 largestByte (rgb .fault) in
+    let c = numberWord gap s 6 largestByte (y .fault) in
     let rgbRange = rangeWord gap s 7 ranges (c .fault) in
     let yccRange = rangeWord gap s 8 ranges (rgbRange .fault) in
     record {
@@ -77,9 +84,9 @@ settingWords gap s ranges =
 -- words 9 to 11
 unfoldable pub pixelWords : ℕ → List ℕ → ℕ → ReadPixel
 pixelWords gap s fault =
-    let a = numberWord gap s 9 65535 fault in
-    let b = numberWord gap s 10 65535 (a .fault) in
-    let c = numberWord gap s 11 65535 (b .fault) in
+    let a = numberWord gap s 9 largestSample fault in
+    let b = numberWord gap s 10 largestSample (a .fault) in
+    let c = numberWord gap s 11 largestSample (b .fault) in
     record { pixel = record { p0 = a .value; p1 = b .value; p2 = c .value }; fault = c .fault }
 
 -- what is expected of each word, where the three after the setting are these
@@ -124,7 +131,7 @@ sampleAsked kind w v n fault =
 unfoldable pub sampleForm : SampleKind → ℕ → List ℕ → List ℕ → ℕ → Asked
 sampleForm kind gap s ranges n =
     let w = settingWords gap s ranges in
-    let v = numberWord gap s n 65535 (w .fault) in
+    let v = numberWord gap s n largestSample (w .fault) in
     sampleAsked kind w v n (endOfWords gap s (n + 1) (v .fault))
 
 -- a request about a code, word n
@@ -134,5 +141,5 @@ labelAsked kind v n fault =
 
 unfoldable pub labelForm : CodeKind → ℕ → List ℕ → ℕ → Asked
 labelForm kind gap s n =
-    let v = numberWord gap s n 255 clear in
+    let v = numberWord gap s n largestByte clear in
     labelAsked kind v n (endOfWords gap s (n + 1) (v .fault))

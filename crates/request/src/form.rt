@@ -45,6 +45,11 @@ pub enum Asked {
 // No word is at fault.
 pub const CLEAR: u8 = 255;
 
+// The largest code or depth that a word may say, and the largest sample.
+const LARGEST_BYTE: u64 = 255;
+
+pub const LARGEST_SAMPLE: u64 = 65535;
+
 // What one word stands for, or the setting's words or a pixel's, and the first word at fault among those that were read so far.
 pub struct ReadNumber {
     pub value: u64,
@@ -113,12 +118,12 @@ fn end_of_words(s: &[u8], gap: u8, n: u8, fault: u8) -> u8
 pub fn setting_words(s: &[u8], gap: u8, ranges: &[u8]) -> ReadSetting
     ensures { λ r. ⌜ r ≡ settingWords gap (now (s .entry)) (now (ranges .entry)) ⌝ }
 {
-    let primaries = number_word(s, gap, 1, 255, CLEAR);
-    let transfer = number_word(s, gap, 2, 255, primaries.fault);
-    let matrix = number_word(s, gap, 3, 255, transfer.fault);
-    let rgb_depth = number_word(s, gap, 4, 255, matrix.fault);
-    let y_depth = number_word(s, gap, 5, 255, rgb_depth.fault);
-    let c_depth = number_word(s, gap, 6, 255, y_depth.fault);
+    let primaries = number_word(s, gap, 1, LARGEST_BYTE, CLEAR);
+    let transfer = number_word(s, gap, 2, LARGEST_BYTE, primaries.fault);
+    let matrix = number_word(s, gap, 3, LARGEST_BYTE, transfer.fault);
+    let rgb_depth = number_word(s, gap, 4, LARGEST_BYTE, matrix.fault);
+    let y_depth = number_word(s, gap, 5, LARGEST_BYTE, rgb_depth.fault);
+    let c_depth = number_word(s, gap, 6, LARGEST_BYTE, y_depth.fault);
     let rgb_range = range_word(s, gap, 7, ranges, c_depth.fault);
     let ycc_range = range_word(s, gap, 8, ranges, rgb_range.fault);
     let setting = Setting {
@@ -140,9 +145,9 @@ pub fn setting_words(s: &[u8], gap: u8, ranges: &[u8]) -> ReadSetting
 fn pixel_words(s: &[u8], gap: u8, fault: u8) -> ReadPixel
     ensures { λ r. ⌜ r ≡ pixelWords gap (now (s .entry)) fault ⌝ }
 {
-    let a = number_word(s, gap, 9, 65535, fault);
-    let b = number_word(s, gap, 10, 65535, a.fault);
-    let c = number_word(s, gap, 11, 65535, b.fault);
+    let a = number_word(s, gap, 9, LARGEST_SAMPLE, fault);
+    let b = number_word(s, gap, 10, LARGEST_SAMPLE, a.fault);
+    let c = number_word(s, gap, 11, LARGEST_SAMPLE, b.fault);
     let pixel = Pixel {
         p0: a.value as u16,
         p1: b.value as u16,
@@ -231,7 +236,7 @@ pub fn sample_form(kind: SampleKind, s: &[u8], gap: u8, ranges: &[u8], n: u8) ->
     ensures { λ r. ⌜ r ≡ sampleForm kind gap (now (s .entry)) (now (ranges .entry)) n ⌝ }
 {
     let w = setting_words(s, gap, ranges);
-    let v = number_word(s, gap, n, 65535, w.fault);
+    let v = number_word(s, gap, n, LARGEST_SAMPLE, w.fault);
     let word = end_of_words(s, gap, n + 1, v.fault);
     if word == CLEAR {
         let setting = w.setting;
@@ -251,7 +256,7 @@ pub fn label_form(kind: CodeKind, s: &[u8], gap: u8, n: u8) -> Asked
     requires { ⌜ n < 254 ⌝ }
     ensures { λ r. ⌜ r ≡ labelForm kind gap (now (s .entry)) n ⌝ }
 {
-    let v = number_word(s, gap, n, 255, CLEAR);
+    let v = number_word(s, gap, n, LARGEST_BYTE, CLEAR);
     let word = end_of_words(s, gap, n + 1, v.fault);
     if word == CLEAR {
         let code = v.value as u8;
