@@ -1,4 +1,7 @@
 // What the box answers, in words with its numbers, and where the words of a request are at fault.
+ghost use mathlib.Core.Path.{_≡_};
+ghost use lib.IntN.{pos};
+ghost use Rattle.cork.specs.Millionths.{millionths};
 use crate::GAP;
 use crate::output::hex;
 use crate::output::number;
@@ -40,7 +43,7 @@ fn refused(r: Refusal) {
     number(n as u64);
     say(b": ");
     wording::meaning(n);
-    if n == 10 {
+    if n == Refusal::SAMPLE_BEYOND_DEPTH {
         say(b": plane ");
         number(place.plane as u64);
         say(b", row ");
@@ -70,14 +73,11 @@ fn converted(way: Way, p: Pixel) {
     }
 }
 
-// Half, rounded up.
-fn half_of(n: u64) -> u64 {
-    n / 2 + n % 2
-}
-
 // A level's size in millionths, to the nearest. A float of an exponent below 127 + 23 is its 24 bits over a power of two; no level is 4
 // or more.
-fn millionths(bits: u32) -> u64 {
+fn millionths(bits: u32) -> u64
+    ensures { λ r. ⌜ pos r ≡ millionths bits ⌝ }
+{
     let exponent = bits / 8388608 % 256;
     let mantissa = (bits % 8388608 + 8388608) as u64;
     if exponent < 100 {
@@ -87,7 +87,8 @@ fn millionths(bits: u32) -> u64 {
         return 0;
     }
     let shift = 150 - exponent;
-    half_of((mantissa * 2000000) >> shift)
+    let halves = (mantissa * 2000000) >> shift;
+    (halves + 1) / 2
 }
 
 fn digit(n: u64) {

@@ -1,0 +1,2 @@
+-- What the counter works out by itself.
+pub mod Millionths
