@@ -1,9 +1,9 @@
 // Cases as lines of text, answered as the box answers them. docs/src/oracle says what a line means. A line's words are read as the counter's
 // are. What is written to standard output is held to stored answers, since no contract can speak of it.
 ghost use mathlib.Core.Path.{_≡_};
-ghost use lib.ListN.{length};
+ghost use lib.ListN.{replicate};
 
-mod planes;
+mod pictures;
 mod say;
 
 use meter::SampleKind;
@@ -54,16 +54,16 @@ fn on_line(line: &[u8]) {
         7 => on_label(line, CodeKind::Primaries),
         8 => on_label(line, CodeKind::Transfer),
         9 => on_label(line, CodeKind::Matrix),
-        10 => planes::on_frame(line, Way::Forward),
-        11 => planes::on_frame(line, Way::Reverse),
-        12 => planes::on_image(line),
+        10 => pictures::on_frame(line, Way::Forward),
+        11 => pictures::on_frame(line, Way::Reverse),
+        12 => pictures::on_image(line),
         _ => say::bad_line(),
     }
 }
 
 // Room for the text of all cases.
 pub fn room() -> [u8; 1000000]
-    ensures { λ r. ⌜ 1000000 ≡ length r ⌝ }
+    ensures { λ r. ⌜ r ≡ replicate 1000000 0 ⌝ }
 {
     [0; 1000000]
 }

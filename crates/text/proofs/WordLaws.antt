@@ -11,7 +11,7 @@ use borrow.Author.Tests.{eq-eqb, ne-eqb, eqb-true, lt-ltb, le-ltb}
 use lib.Dec.{eqb, ltb}
 use lib.ListN.{length, getD, take, drop, length-drop, drop-of-length-le}
 use lib.Seq.{drop-cons, drop-drop, getD-drop}
-use Rattle.text.specs.Words.{begun, split, wordOf, before, endOf, sameWord, indexIn, Next, Starts}
+use Rattle.text.specs.Words.{begun, split, wordOf, before, endOf, sameWord, indexIn, startOf, Next, Starts}
 
 -- the bytes before the first gap, one byte at a time
 before-gap : (gap b : ℕ) (s : List ℕ) → b ≡ gap → before gap (b ∷ s) ≡ 0
@@ -97,28 +97,34 @@ module _ (gap : ℕ) (s : List ℕ) (at : ℕ) where
 -- the words after it
 module _ (gap : ℕ) (s : List ℕ) (at : ℕ) where
   pub next-word : endOf gap s at < length s → Next gap s at (endOf gap s at + 1)
-  next-word h = record { rest = rw (split-step gap s at (omega arith)); within = omega arith; onward = λ l. omega arith }
+  next-word h = record { is = omega arith; rest = rw (split-step gap s at (omega arith)); within = omega arith; onward = λ l. omega arith }
 
   pub next-none : length s ≤ endOf gap s at → Next gap s at (length s)
-  next-none h = record { rest = go (decLt at (length s)); within = omega arith; onward = λ l. omega arith }
+  next-none h = record { is = omega arith; rest = go (decLt at (length s)); within = omega arith; onward = λ l. omega arith }
     where
       go : Dec (at < length s) → split gap (drop (length s) s) ≡ drop 1 (split gap (drop at s))
       go (yes l) = rw (split-over gap s (length s) (omega arith), split-step gap s at l, split-over gap s (endOf gap s at + 1) (omega arith))
       go (no f) = rw (split-over gap s (length s) (omega arith), split-over gap s at (omega arith))
 
 -- words counted from the front
+pub starts-first : (gap : ℕ) (s : List ℕ) → Starts gap s 0 0
+unfolding startOf
+starts-first gap s = record { is = refl; words = refl }
+
 module _ (gap : ℕ) (s : List ℕ) (n start : ℕ) (e : Starts gap s n start) where
   pub next-starts : (next : ℕ) → Next gap s start next → Starts gap s (n + 1) next
-  next-starts next f = f .rest ∙ ap (drop 1) e ∙ drop-drop 1 n (split gap s)
+  unfolding startOf
+  next-starts next f =
+      record { is = rw (add-one n, ← e .is) (f .is); words = f .rest ∙ ap (drop 1) (e .words) ∙ drop-drop 1 n (split gap s) }
 
   pub starts-word : wordOf gap (drop start s) 0 ≡ wordOf gap s n
-  starts-word = ap (λ (l : List (List ℕ)). getD l 0 []) e ∙ getD-drop n (split gap s) 0 [] ∙ rw (add-zero n)
+  starts-word = ap (λ (l : List (List ℕ)). getD l 0 []) (e .words) ∙ getD-drop n (split gap s) 0 [] ∙ rw (add-zero n)
 
   pub starts-there : ltb start (length s) ≡ ltb n (length (split gap s))
   starts-there = go (decLt start (length s))
     where
       left : length (split gap (drop start s)) ≡ length (split gap s) - n
-      left = ap length e ∙ length-drop n (split gap s)
+      left = ap length (e .words) ∙ length-drop n (split gap s)
 
       go : Dec (start < length s) → ltb start (length s) ≡ ltb n (length (split gap s))
       go (yes h) = lt-ltb _ _ h ∙ sym (lt-ltb n (length (split gap s)) (omega (arith, left, ap length (split-step gap s start h))))

@@ -2,7 +2,7 @@
 use mathlib.Core.Path.{_≡_}
 use mathlib.Core.Bool.{Bool, true, false, cond, _&&_}
 use mathlib.Core.List.{List, [], _∷_}
-use Prim.Native.Nat.{ℕ, suc, _+_, _≤_, _<_}
+use Prim.Native.Nat.{ℕ, zero, suc, _+_, _≤_, _<_, min}
 use lib.Dec.{eqb}
 use lib.ListN.{length, getD, drop}
 
@@ -29,6 +29,15 @@ before gap (b ∷ s) = cond (eqb b gap) 0 (suc (before gap s))
 abbrev pub endOf : ℕ → List ℕ → ℕ → ℕ
 endOf gap s at = at + before gap (drop at s)
 
+-- where the word after the one at a position starts, or the text's end
+abbrev pub nextOf : ℕ → List ℕ → ℕ → ℕ
+nextOf gap s at = min (endOf gap s at + 1) (length s)
+
+-- where word n starts, or the text's end
+unfoldable pub startOf : ℕ → List ℕ → ℕ → ℕ
+startOf gap s zero = 0
+startOf gap s (suc n) = nextOf gap s (startOf gap s n)
+
 unfoldable pub sameWord : List ℕ → List ℕ → Bool
 sameWord [] [] = true
 sameWord [] (c ∷ w) = false
@@ -42,10 +51,12 @@ indexIn w (v ∷ vs) = cond (sameWord w v) 0 (suc (indexIn w vs))
 
 -- the words from `next` on are those from `at` on but the first
 pub record Next (gap : ℕ) (s : List ℕ) (at next : ℕ) : Type 0 where
+  pub is : next ≡ nextOf gap s at
   pub rest : split gap (drop next s) ≡ drop 1 (split gap (drop at s))
   pub within : next ≤ length s
   pub onward : at < length s → at < next
 
 -- the words from `start` on are those of the text from word n on
-abbrev pub Starts : ℕ → List ℕ → ℕ → ℕ → Type 0
-Starts gap s n start = split gap (drop start s) ≡ drop n (split gap s)
+pub record Starts (gap : ℕ) (s : List ℕ) (n start : ℕ) : Type 0 where
+  pub is : start ≡ startOf gap s n
+  pub words : split gap (drop start s) ≡ drop n (split gap s)

@@ -1,10 +1,10 @@
 -- `text::reading::start_of` meets its contract: after i turns the words from word i on are all that is left.
-use mathlib.Core.Path.{_≡_, refl}
+use mathlib.Core.Path.{_≡_}
 use Prim.Native.Nat.{_-_, _≤_}
 use native.Mathlib.Omega.{arith}
 use denote.Ref.{now}
 use Rattle.text.specs.Words.{Starts}
-use Rattle.text.proofs.WordLaws.{next-starts}
+use Rattle.text.proofs.WordLaws.{starts-first, next-starts}
 use borrow.Author.Needs.{needs}
 use Rattle.text.proofs.reading.start_of.Statement.{statement}
 use Rattle.text.proofs.reading.start_of.Tie as tie
@@ -16,7 +16,7 @@ abbrev μ-loop : tie.MeasureT-loop
 μ-loop s gap n start₀ counter₀ start counter = n - counter
 
 loop-holds : tie.Need-loop-holds Inv-loop μ-loop
-loop-holds c = (omega arith, refl)
+loop-holds c = (omega arith, starts-first _ _)
 
 loop-again : tie.Need-loop-again Inv-loop μ-loop
 loop-again c =

@@ -1,10 +1,10 @@
--- `case_lines::planes::on_picture` is safe: the planes are parts of their rooms.
+-- `case_lines::pictures::on_picture` is safe: the planes are parts of their rooms.
 use mathlib.Core.Path.{sym}
 use native.Mathlib.Omega.{arith}
 use lib.Seq.{length-take-le}
 use borrow.Author.Needs.{needs}
-use Rattle.case_lines.proofs.planes.on_picture.Statement.{statement}
-use Rattle.case_lines.proofs.planes.on_picture.Tie as tie
+use Rattle.case_lines.proofs.pictures.on_picture.Statement.{statement}
+use Rattle.case_lines.proofs.pictures.on_picture.Tie as tie
 
 pub on-picture-spec : {M : Type 1} → statement M
 on-picture-spec =

@@ -1,7 +1,10 @@
 // Cases on whole frames and on images. Word 9 and those after it are the sizes; then come the planes, which are long, so they are read
 // forward from where they start, and not word by number.
+ghost use mathlib.Core.Path.{_≡_};
 ghost use Prim.Native.Nat.{_≤_};
 ghost use lib.ListN.{length};
+ghost use Rattle.frame.specs.Frame.{inputPicture, outputLayout, PlanesAfter, FrameAfter};
+ghost use Rattle.case_lines.specs.Lines.{sizeWord, pictureWords, stepAt, planeAt, planeOver, oldPlane};
 use crate::GAP;
 use crate::RANGES;
 use crate::say;
@@ -18,8 +21,14 @@ use text::reading::Number;
 // The longest plane that there is room for.
 const ROOM: usize = 20000;
 
+// The largest number of 64 bits.
+const LARGEST: u64 = 18446744073709551615;
+
+// How many samples there are that a word may say.
+const SAMPLES: u64 = form::LARGEST_SAMPLE + 1;
+
 // No position of a line: reading stopped at a word that is no number, or too large a one.
-const STOPPED: usize = 18446744073709551615;
+const STOPPED: usize = LARGEST as usize;
 
 // A number, and the position after it.
 struct Step {
@@ -48,6 +57,7 @@ enum PictureRequest {
 }
 
 fn next_number(line: &[u8], at: usize, most: u64) -> Step
+    ensures { λ r. ⌜ r ≡ stepAt (now (line .entry)) at most ⌝ }
     ensures { λ r. ⌜ r .value ≤ most ⌝ }
 {
     match reading::number_from(line, GAP, at, most) {
@@ -64,14 +74,16 @@ fn next_number(line: &[u8], at: usize, most: u64) -> Step
 
 // A plane: its length and then its elements.
 fn plane(line: &[u8], at: usize, out: &mut [u16]) -> ReadPlane
+    ensures { λ r. ⌜ r ≡ planeAt (now (line .entry)) at (length (now (out .entry))) ⌝ }
     ensures { λ r. ⌜ r .length ≤ length (now (out .entry)) ⌝ }
+    ensures { λ _. ⌜ now (out .exit) ≡ planeOver (now (line .entry)) at (now (out .entry)) ⌝ }
 {
     let count = next_number(line, at, out.len() as u64);
     let length = count.value as usize;
     let mut next = count.next;
     let mut i: usize = 0;
     while i < length {
-        let one = next_number(line, next, 65535);
+        let one = next_number(line, next, form::LARGEST_SAMPLE);
         out[i] = one.value as u16;
         next = one.next;
         i += 1;
@@ -80,17 +92,21 @@ fn plane(line: &[u8], at: usize, out: &mut [u16]) -> ReadPlane
 }
 
 // A width, a height or a stride.
-fn size_at(line: &[u8], n: u8, fault: u8) -> ReadNumber {
-    form::number_word(line, GAP, n, 18446744073709551615, fault)
+fn size_at(line: &[u8], n: u8, fault: u8) -> ReadNumber
+    ensures { λ r. ⌜ r ≡ sizeWord (now (line .entry)) n fault ⌝ }
+{
+    form::number_word(line, GAP, n, LARGEST, fault)
 }
 
 // Old contents, which must never show.
-fn old_contents(fill: u64, out: &mut [u16]) {
-    let mut v = fill % 65536;
+fn old_contents(fill: u64, out: &mut [u16])
+    ensures { λ _. ⌜ now (out .exit) ≡ oldPlane fill (length (now (out .entry))) ⌝ }
+{
+    let mut v = fill % SAMPLES;
     let mut i: usize = 0;
     while i < out.len() {
-        out[i] = (v % 65536) as u16;
-        v = (v + 7919) % 65536;
+        out[i] = v as u16;
+        v = (v + 7919) % SAMPLES;
         i += 1;
     }
 }
@@ -105,7 +121,11 @@ fn convert(
     b0: &mut [u16],
     b1: &mut [u16],
     b2: &mut [u16],
-) -> FrameAnswer {
+) -> FrameAnswer
+    ensures { λ x. ⌜ FrameAfter way s (inputPicture z (now (a0 .entry)) (now (a1 .entry)) (now (a2 .entry)))
+        (outputLayout z (length (now (b0 .entry))) (length (now (b1 .entry))) (length (now (b2 .entry))))
+        x (now (b0 .exit)) (now (b1 .exit)) (now (b2 .exit)) ⌝ }
+{
     match way {
         Way::Forward => frames::forward_frame(s, z, a0, a1, a2, b0, b1, b2),
         Way::Reverse => frames::reverse_frame(s, z, a0, a1, a2, b0, b1, b2),
@@ -122,7 +142,11 @@ fn convert_and_say(
     b0: &mut [u16],
     b1: &mut [u16],
     b2: &mut [u16],
-) {
+)
+    ensures { λ _. ⌜ PlanesAfter way s (inputPicture z (now (a0 .entry)) (now (a1 .entry)) (now (a2 .entry)))
+        (outputLayout z (length (now (b0 .entry))) (length (now (b1 .entry))) (length (now (b2 .entry))))
+        (now (b0 .exit)) (now (b1 .exit)) (now (b2 .exit)) ⌝ }
+{
     say::frame(convert(way, s, z, a0, a1, a2, b0, b1, b2));
     say::plane(b0);
     say::plane(b1);
@@ -143,7 +167,7 @@ fn convert_into(
     let n0 = next_number(line, at, ROOM as u64);
     let n1 = next_number(line, n0.next, ROOM as u64);
     let n2 = next_number(line, n1.next, ROOM as u64);
-    let fill = next_number(line, n2.next, 65535);
+    let fill = next_number(line, n2.next, form::LARGEST_SAMPLE);
     if fill.next != line.len() {
         say::bad_line();
         return;
@@ -211,7 +235,9 @@ fn on_picture(line: &[u8], first: u8, request: PictureRequest) {
 }
 
 // Words 1 to 11: the setting, and the sizes that every picture has.
-fn picture_words(line: &[u8]) -> ReadPicture {
+fn picture_words(line: &[u8]) -> ReadPicture
+    ensures { λ r. ⌜ r ≡ pictureWords (now (line .entry)) ⌝ }
+{
     let w = form::setting_words(line, GAP, &RANGES);
     let setting = w.setting;
     let width = size_at(line, 9, w.fault);

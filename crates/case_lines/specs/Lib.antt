@@ -1,0 +1,2 @@
+-- What the words of a case line come to, where it has planes.
+pub mod Lines
