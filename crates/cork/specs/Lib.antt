@@ -1,2 +1,3 @@
--- What the counter works out by itself.
+-- What the counter makes of its words before it asks the box, and of a level after it.
+pub mod CommandLine
 pub mod Millionths

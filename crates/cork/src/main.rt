@@ -3,8 +3,9 @@ mod output;
 mod saying;
 mod wording;
 
-ghost use Prim.Native.Nat.{_≤_};
+ghost use Prim.Native.Nat.{_≤_, _-_, min};
 ghost use lib.ListN.{length};
+ghost use Rattle.cork.specs.CommandLine.{Words};
 use meter::SampleKind;
 use request::CodeKind;
 use request::form;
@@ -79,6 +80,7 @@ fn on_words(words: &[u8]) {
 // beginning there: that goes on with two dots, as no word does that belongs anywhere.
 fn word(i: usize, words: &mut [u8], at: usize) -> usize
     requires { ⌜ at ≤ length (now words) ⌝ }
+    ensures { λ r. ⌜ Words 1 (now (words .entry)) at (now (words .exit)) r ⌝ }
     ensures { λ r. ⌜ r ≤ length (now (words .entry)) ⌝ }
 {
     let mut one = [0u8; 64];
@@ -93,6 +95,7 @@ fn word(i: usize, words: &mut [u8], at: usize) -> usize
 
 // All words, or the first 20: no request has so many.
 fn all_words(count: usize, words: &mut [u8]) -> usize
+    ensures { λ r. ⌜ Words (min (count - 1) 20) (now (words .entry)) 0 (now (words .exit)) r ⌝ }
     ensures { λ r. ⌜ r ≤ length (now (words .entry)) ⌝ }
 {
     let mut at = 0;

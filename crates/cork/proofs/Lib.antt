@@ -1,0 +1,2 @@
+-- Laws of the command line's words.
+pub mod WordsLaws
