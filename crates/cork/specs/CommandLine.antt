@@ -5,7 +5,11 @@ use Prim.Native.Nat.{ℕ}
 use lib.ListN.{length}
 use Rattle.text.specs.Writing.{Wrote}
 
--- words, each with a gap behind it
+-- how many words are read: no request has so many
+abbrev pub mostWords : ℕ
+mostWords = 20
+
+-- words, each with the gap behind it
 unfoldable pub ended : List (List ℕ) → List ℕ
 ended [] = []
 ended (w ∷ ws) = w ++ (0 ∷ ended ws)

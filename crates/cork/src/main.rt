@@ -5,7 +5,7 @@ mod wording;
 
 ghost use Prim.Native.Nat.{_≤_, _-_, min};
 ghost use lib.ListN.{length};
-ghost use Rattle.cork.specs.CommandLine.{Words};
+ghost use Rattle.cork.specs.CommandLine.{mostWords, Words};
 use meter::SampleKind;
 use request::CodeKind;
 use request::form;
@@ -17,6 +17,9 @@ use text::reading;
 
 // The byte between two words: no word can hold it.
 const GAP: u8 = 0;
+
+// How many words are read: no request has so many.
+const MOST_WORDS: usize = 20;
 
 // The names of the two ranges.
 const RANGES: [u8; 11] = *b"narrow full";
@@ -93,15 +96,15 @@ fn word(i: usize, words: &mut [u8], at: usize) -> usize
     text::writing::put(words, next, b"\0")
 }
 
-// All words, or the first 20: no request has so many.
+// All words, or the first of them.
 fn all_words(count: usize, words: &mut [u8]) -> usize
-    ensures { λ r. ⌜ Words (min (count - 1) 20) (now (words .entry)) 0 (now (words .exit)) r ⌝ }
+    ensures { λ r. ⌜ Words (min (count - 1) mostWords) (now (words .entry)) 0 (now (words .exit)) r ⌝ }
     ensures { λ r. ⌜ r ≤ length (now (words .entry)) ⌝ }
 {
     let mut at = 0;
     let mut i: usize = 1;
     while i < count {
-        if 20 < i {
+        if MOST_WORDS < i {
             return at;
         }
         at = word(i, words, at);
