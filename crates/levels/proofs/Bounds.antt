@@ -5,7 +5,7 @@ use mathlib.Core.Bool.{Bool, true, false}
 use Prim.Native.Nat.{ℕ, zero, suc, _+_, _*_, _^_, _≤_, _<_}
 use native.Mathlib.Nat.{mul-pos, mul-le-mul, mul-le-mul-left, le-refl}
 use native.Mathlib.Omega.{arith}
-use Rattle.sample.specs.Depth.{mostLevelDepth, Inside}
+use Rattle.sample.specs.Depth.{mostLevelDepth, M, Inside}
 use Rattle.sample.specs.declared.ChromaDepth.{ChromaDepth}
 use Rattle.sample.specs.declared.Pixel.{Pixel}
 use Rattle.sample.proofs.DepthLaws.{Powers, powers}
@@ -13,7 +13,7 @@ use Rattle.scale.specs.Scale.{lightScale, chromaScale}
 use Rattle.levels.specs.Conversion.{Shares, EquationFits, MatrixFits, LevelDepth, mostSample, SamplesFit}
 use Rattle.levels.specs.Equations.{allParts, weights, equationY, equationPB, equationPR, equationR, equationG, equationB, lumaMatrix}
 use Rattle.levels.specs.Lines.{writerOf, readersOfRgb, readersOfYcc, spread, lineOf}
-use Rattle.levels.specs.Room.{ScaleFits, SpreadFits, LineFits, Room}
+use Rattle.levels.specs.Room.{lightAdded, chromaAdded, ScaleFits, SpreadFits, LineFits, Room}
 use Rattle.scale.specs.declared.Scale.{Scale}
 use Rattle.levels.specs.declared.equations.Weights.{Weights}
 use Rattle.levels.specs.declared.equations.Equation.{Equation}
@@ -43,7 +43,7 @@ module _ (d : ℕ) (h : LevelDepth d) where
   light-scale-fits true = let p = depth-powers h in omega arith
   light-scale-fits false = let p = depth-powers h in omega arith
 
-  pub light-writer-fits : (f : Bool) → WriterFits 256 (writerOf f (lightScale f d) d)
+  pub light-writer-fits : (f : Bool) → WriterFits lightAdded (writerOf f (lightScale f d) (M d))
   light-writer-fits true = let p = depth-powers h in omega arith
   light-writer-fits false = let p = depth-powers h in omega arith
 
@@ -52,11 +52,11 @@ module _ (d : ChromaDepth) (h : LevelDepth (d .0)) where
   chroma-scale-fits true = let p = depth-powers h in omega arith
   chroma-scale-fits false = let p = depth-powers h in omega arith
 
-  pub chroma-writer-fits : (f : Bool) → WriterFits 2048 (writerOf f (chromaScale f d) (d .0))
+  pub chroma-writer-fits : (f : Bool) → WriterFits chromaAdded (writerOf f (chromaScale f d) (M (d .0)))
   chroma-writer-fits true = let p = depth-powers h in omega arith
   chroma-writer-fits false = let p = depth-powers h in omega arith
 
-pub wider : {t : Writer} → WriterFits 256 t → WriterFits 2048 t
+pub wider : {t : Writer} → WriterFits lightAdded t → WriterFits chromaAdded t
 wider h = omega arith
 
 -- Weights in ten-thousandths.
@@ -106,7 +106,7 @@ module _ (k : Weights) (h : Shares k) where
 
 -- A line of them.
 module _ (w : Equation) (r : EquationFits w) (to : Writer) where
-  pub forward-fits : (s : Scale) → ScaleFits s → WriterFits 2048 to → LineFits w (readersOfRgb s) to
+  pub forward-fits : (s : Scale) → ScaleFits s → WriterFits chromaAdded to → LineFits w (readersOfRgb s) to
   forward-fits s h t =
       let p = mul-le-mul (r .over-in) (h .times-in) in
       let q = mul-le-mul (t .plus-in) p in
@@ -120,7 +120,7 @@ module _ (w : Equation) (r : EquationFits w) (to : Writer) where
         added-in = omega arith;
       }
 
-  pub reverse-fits : (y c : Scale) → ScaleFits y → ScaleFits c → WriterFits 256 to → LineFits w (readersOfYcc y c) to
+  pub reverse-fits : (y c : Scale) → ScaleFits y → ScaleFits c → WriterFits lightAdded to → LineFits w (readersOfYcc y c) to
   reverse-fits y c h g t =
       let p = mul-le-mul (r .over-in) (mul-le-mul (g .times-in) (h .times-in)) in
       let q = mul-le-mul (t .plus-in) p in

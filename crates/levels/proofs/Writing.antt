@@ -13,8 +13,8 @@ use Rattle.fraction.proofs.Same.{ring, by-parts}
 use Rattle.fraction.proofs.Value.{Value, ⊕-value, ⊗-value, lift, rename, Round-value, itself}
 use Rattle.sample.specs.declared.ChromaDepth.{ChromaDepth}
 use Rattle.sample.specs.declared.Pixel.{Pixel}
-use Rattle.sample.specs.Depth.{M, H}
-use Rattle.scale.specs.Scale.{S, lightScale, chromaScale, level, written, writtenChroma}
+use Rattle.sample.specs.Depth.{M, H, S}
+use Rattle.scale.specs.Scale.{lightSpan, black, chromaSpan, grey, lightScale, chromaScale, level, written, writtenChroma}
 use Rattle.levels.specs.Equations.{sumOf}
 use Rattle.levels.specs.Lines.{writerOf, wroteLevel, reader, read, lineOf, lineAt, lineSample}
 use Rattle.scale.specs.declared.Scale.{Scale}
@@ -58,13 +58,13 @@ module _ {e : Frac} {z : ℤ} {n : ℕ} (h : Value e z n) (n-some : 0 < n) where
       (⊗-value (pos s) 1 (omega arith) (⊕-value (rename refl (one-mul n) (⊗-value (pos m) 1 (omega arith) h)) (whole-value o))))
       n-some
 
-  written-law : (f : Bool) (d : ℕ) → written f d e ≡ wroteLevel (writerOf f (lightScale f d) d) z n
+  written-law : (f : Bool) (d : ℕ) → written f d e ≡ wroteLevel (writerOf f (lightScale f d) (M d)) z n
   written-law true d = ap (clip (M d)) (full (M d) ∙ sym (+ℤ-idr _))
-  written-law false d = ap (clip (M d)) (narrow (S d) 219 16 ∙ sym (+ℤ-idr _))
+  written-law false d = ap (clip (M d)) (narrow (S d) lightSpan black ∙ sym (+ℤ-idr _))
 
-  written-chroma-law : (f : Bool) (d : ChromaDepth) → writtenChroma f d e ≡ wroteLevel (writerOf f (chromaScale f d) (d .0)) z n
+  written-chroma-law : (f : Bool) (d : ChromaDepth) → writtenChroma f d e ≡ wroteLevel (writerOf f (chromaScale f d) (M (d .0))) z n
   written-chroma-law true d = ap (λ x. clip (M (d .0)) (x +ℤ pos (H (d .0)))) (full (M (d .0)))
-  written-chroma-law false d = ap (clip (M (d .0))) (narrow (S (d .0)) 224 128 ∙ sym (+ℤ-idr _))
+  written-chroma-law false d = ap (clip (M (d .0))) (narrow (S (d .0)) chromaSpan grey ∙ sym (+ℤ-idr _))
 
 -- a line's numerator, over plain numbers: t writes, m and o read the first sample, n and q the two others
 line-numbers : (t m n o q u0 u1 u2 d0 d1 d2 x y z k : ℕ)
@@ -94,8 +94,8 @@ sample-law w from to p =
 
 -- The two closing laws: where a level has an equation's value, the equation's line gives the sample that the level is written as.
 module _ (w : Equation) (from : Readers) (p : Pixel) {e : Frac} (v : Value e (equationAt w from p) (w .over * from .common)) (some : 0 < w .over * from .common) where
-  pub light-sample : (f : Bool) (d : ℕ) → lineSample (lineOf w from (writerOf f (lightScale f d) d)) p ≡ written f d e
-  light-sample f d = sample-law w from (writerOf f (lightScale f d) d) p ∙ sym (written-law v some f d)
+  pub light-sample : (f : Bool) (d : ℕ) → lineSample (lineOf w from (writerOf f (lightScale f d) (M d))) p ≡ written f d e
+  light-sample f d = sample-law w from (writerOf f (lightScale f d) (M d)) p ∙ sym (written-law v some f d)
 
-  pub chroma-sample : (f : Bool) (d : ChromaDepth) → lineSample (lineOf w from (writerOf f (chromaScale f d) (d .0))) p ≡ writtenChroma f d e
-  chroma-sample f d = sample-law w from (writerOf f (chromaScale f d) (d .0)) p ∙ sym (written-chroma-law v some f d)
+  pub chroma-sample : (f : Bool) (d : ChromaDepth) → lineSample (lineOf w from (writerOf f (chromaScale f d) (M (d .0)))) p ≡ writtenChroma f d e
+  chroma-sample f d = sample-law w from (writerOf f (chromaScale f d) (M (d .0))) p ∙ sym (written-chroma-law v some f d)

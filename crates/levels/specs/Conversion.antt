@@ -1,8 +1,8 @@
 -- A pixel by a level matrix: the levels of its samples, an equation for each plane, one Round and one Clip at the end.
 use mathlib.Core.Path.{_≡_}
-use Prim.Native.Nat.{ℕ, _+_, _*_, _-_, _^_, _≤_, _<_}
+use Prim.Native.Nat.{ℕ, _+_, _*_, _/_, _≤_, _<_}
 use Rattle.fraction.specs.Fraction.{Frac}
-use Rattle.sample.specs.Depth.{leastDepth, mostLevelDepth}
+use Rattle.sample.specs.Depth.{leastDepth, mostLevelDepth, M}
 use Rattle.sample.specs.declared.Pixel.{Pixel}
 use Rattle.scale.specs.Scale.{rgbScale, lumaScale, chromaScale, level, writtenRgb, writtenLuma, writtenChroma}
 use Rattle.scale.specs.declared.Scale.{Scale}
@@ -76,12 +76,12 @@ pub record Shares (k : Weights) : Type 0 where
   pub all-is : k .all ≡ allParts
   pub green : 0 < k .kg
 
--- all that an equation adds and takes away, and the most that the code has room for: 5/4 of the square of the whole, in ten-thousandths
+-- all that an equation adds and takes away, and the most that the code has room for: 5/4 of the square of the whole
 abbrev pub total : Equation → ℕ
 total w = w .up0 + w .up1 + w .up2 + w .down0 + w .down1 + w .down2
 
 abbrev pub mostTotal : ℕ
-mostTotal = 125000000
+mostTotal = 5 * (allParts * allParts) / 4
 
 -- an equation that the code has room for, and a matrix of such
 pub record EquationFits (w : Equation) : Type 0 where
@@ -111,7 +111,7 @@ pub record LevelDepths (s : LevelSetting) : Type 0 where
 
 -- the largest sample of such a depth, and a pixel with none above it
 abbrev pub mostSample : ℕ
-mostSample = 2 ^ mostLevelDepth - 1
+mostSample = M mostLevelDepth
 
 pub record SamplesFit (p : Pixel) : Type 0 where
   pub p0-in : p .p0 ≤ mostSample

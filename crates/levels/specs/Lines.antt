@@ -18,17 +18,17 @@ use Rattle.levels.specs.declared.lines.Writer.{Writer}
 
 -- what a scale takes away is added again: after Round in full range, before it in narrow range
 abbrev pub writerOf : Bool → Scale → ℕ → Writer
-writerOf true s d = record { times = s .times; plus = 0; mid = s .plus; top = M d }
-writerOf false s d = record { times = s .times; plus = s .plus; mid = 0; top = M d }
+writerOf true s top = record { times = s .times; plus = 0; mid = s .plus; top = top }
+writerOf false s top = record { times = s .times; plus = s .plus; mid = 0; top = top }
 
 abbrev pub rgbWriter : LevelSetting → Writer
-rgbWriter s = writerOf (s .«rgb_full») (rgbOf s) (s .depths .rgb .0)
+rgbWriter s = writerOf (s .«rgb_full») (rgbOf s) (M (s .depths .rgb .0))
 
 abbrev pub lumaWriter : LevelSetting → Writer
-lumaWriter s = writerOf (s .«ycc_full») (lumaOf s) (s .depths .luma .0)
+lumaWriter s = writerOf (s .«ycc_full») (lumaOf s) (M (s .depths .luma .0))
 
 abbrev pub chromaWriter : LevelSetting → Writer
-chromaWriter s = writerOf (s .«ycc_full») (chromaOf s) (s .depths .chroma .0)
+chromaWriter s = writerOf (s .«ycc_full») (chromaOf s) (M (s .depths .chroma .0))
 
 -- a level z / n, written
 abbrev pub wroteLevel : Writer → ℤ → ℕ → ℕ

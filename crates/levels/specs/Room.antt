@@ -3,8 +3,11 @@ use mathlib.Core.Path.{_≡_}
 use Prim.Native.Nat.{ℕ, _+_, _*_, _≤_, _<_}
 use Rattle.rounding.specs.Quotient.{Divides}
 use Rattle.rounding.specs.declared.quotient.Divisor.{Divisor}
+use Rattle.sample.specs.Depth.{mostLevelDepth, S}
+use Rattle.scale.specs.Scale.{black, grey}
 use Rattle.scale.specs.declared.Scale.{Scale}
 use Rattle.levels.specs.Conversion.{total, mostTotal, mostSample}
+use Rattle.levels.specs.Equations.{allParts}
 use Rattle.levels.specs.Lines.{lineOf}
 use Rattle.levels.specs.declared.equations.Equation.{Equation}
 use Rattle.levels.specs.declared.equations.Equations.{Equations}
@@ -14,11 +17,23 @@ use Rattle.levels.specs.declared.lines.ReadyLine.{ReadyLine}
 use Rattle.levels.specs.declared.lines.Readers.{Readers}
 use Rattle.levels.specs.declared.lines.Writer.{Writer}
 
-abbrev pub mostNumerator : ℕ
-mostNumerator = 9100000000000000000
-
+-- an equation's denominator over those of two scales
 abbrev pub mostDenominator : ℕ
-mostDenominator = 100000000000000000
+mostDenominator = allParts * allParts * (mostSample * mostSample)
+
+-- what narrow range adds to a level of light and to one of chroma at most, and the former over such a denominator
+abbrev pub lightAdded : ℕ
+lightAdded = black * S mostLevelDepth
+
+abbrev pub chromaAdded : ℕ
+chromaAdded = grey * S mostLevelDepth
+
+abbrev pub mostAdded : ℕ
+mostAdded = lightAdded * mostDenominator
+
+-- an equation's weights, read and written, each at the largest sample
+abbrev pub mostNumerator : ℕ
+mostNumerator = mostSample * mostSample * mostSample * mostTotal + mostAdded
 
 -- a scale of a depth that a level matrix serves
 pub record ScaleFits (s : Scale) : Type 0 where
@@ -42,7 +57,7 @@ pub record LineFits (w : Equation) (from : Readers) (to : Writer) : Type 0 where
   pub mid-in : to .mid ≤ to .top
   pub top-in : to .top ≤ mostSample
   pub over-some : 0 < w .over * from .common
-  pub added-in : to .plus * (w .over * from .common) ≤ 500000000000000000
+  pub added-in : to .plus * (w .over * from .common) ≤ mostAdded
 
 -- a line that has room at every pixel
 pub record Room (l : Line) : Type 0 where

@@ -25,15 +25,20 @@ pub fn forward_lines(e: Equations, s: LevelSetting) -> Lines
     requires { ⌜ LevelDepths s ⌝ }
     ensures { λ r. ⌜ Prepared e (readersOfRgb (rgbOf s)) (lumaWriter s) (chromaWriter s) r ⌝ }
 {
-    let depths = s.depths;
-    let rgb = depths.rgb;
-    let luma = depths.luma;
-    let chroma = depths.chroma;
+    let d = s.depths;
     let rgb_full = s.rgb_full;
     let ycc_full = s.ycc_full;
-    let from = lines::readers_of_rgb(scale::rgb_scale(rgb_full, rgb));
-    let light = lines::writer_of(ycc_full, scale::luma_scale(ycc_full, luma), luma.0);
-    let colour = lines::writer_of(ycc_full, scale::chroma_scale(ycc_full, chroma), chroma.0);
+    let from = lines::readers_of_rgb(scale::rgb_scale(rgb_full, d.rgb));
+    let light = lines::writer_of(
+        ycc_full,
+        scale::luma_scale(ycc_full, d.luma),
+        d.luma.largest(),
+    );
+    let colour = lines::writer_of(
+        ycc_full,
+        scale::chroma_scale(ycc_full, d.chroma),
+        d.chroma.largest(),
+    );
     lines::lines_of(e, from, light, colour)
 }
 
@@ -43,15 +48,12 @@ pub fn reverse_lines(e: Equations, s: LevelSetting) -> Lines
     requires { ⌜ LevelDepths s ⌝ }
     ensures { λ r. ⌜ Prepared e (readersOfYcc (lumaOf s) (chromaOf s)) (rgbWriter s) (rgbWriter s) r ⌝ }
 {
-    let depths = s.depths;
-    let rgb = depths.rgb;
-    let luma = depths.luma;
-    let chroma = depths.chroma;
+    let d = s.depths;
     let rgb_full = s.rgb_full;
     let ycc_full = s.ycc_full;
-    let of_luma = scale::luma_scale(ycc_full, luma);
-    let of_chroma = scale::chroma_scale(ycc_full, chroma);
+    let of_luma = scale::luma_scale(ycc_full, d.luma);
+    let of_chroma = scale::chroma_scale(ycc_full, d.chroma);
     let from = lines::readers_of_ycc(of_luma, of_chroma);
-    let to = lines::writer_of(rgb_full, scale::rgb_scale(rgb_full, rgb), rgb.0);
+    let to = lines::writer_of(rgb_full, scale::rgb_scale(rgb_full, d.rgb), d.rgb.largest());
     lines::lines_of(e, from, to, to)
 }

@@ -4,8 +4,6 @@ use crate::equations::Equations;
 use rounding::quotient::Divisor;
 use scale::Scale;
 ghost use mathlib.Core.Path.{_≡_};
-ghost use Rattle.sample.specs.Depth.{Depth};
-ghost use Rattle.sample.specs.Depth.{M};
 ghost use Rattle.levels.specs.Lines.{writerOf, readersOfRgb, readersOfYcc, spread, lineOf};
 ghost use Rattle.levels.specs.Room.{ScaleFits, SpreadFits, LineFits, Lined, Prepared};
 
@@ -54,13 +52,12 @@ pub struct Readers {
 }
 
 // What a scale takes away is added again: before Round where the range is narrow, after it where it is full.
-pub(crate) fn writer_of(full: bool, s: Scale, depth: u8) -> Writer
-    requires { ⌜ Depth depth ⌝ }
-    ensures { λ r. ⌜ r ≡ writerOf full s depth ⌝ }
+pub(crate) fn writer_of(full: bool, s: Scale, top: u16) -> Writer
+    ensures { λ r. ⌜ r ≡ writerOf full s top ⌝ }
 {
     let times = s.times;
     let plus = s.plus;
-    let top = sample::largest(depth) as u64;
+    let top = top as u64;
     if full {
         return Writer {
             times,

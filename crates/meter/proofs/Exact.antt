@@ -12,6 +12,7 @@ use lib.Ieee.Fits.{up-pos, down-pos}
 use lib.Ieee.Back.{round-whole}
 use lib.Ieee.Scale.{round-same}
 use Rattle.rounding.proofs.Difference.{Holds, subtracted}
+use Rattle.sample.specs.Depth.{mostDepth, M}
 use Rattle.scale.specs.declared.Scale.{Scale}
 use Rattle.meter.specs.Level.{floatQuotient, IsExactly, nearestTo, IsNumber, Measurable}
 
@@ -31,7 +32,7 @@ size : (z : ℤ) (a b m : ℕ) → Holds z a b → a ≤ m → b ≤ m → natAb
 size (pos n) a b m h p q = omega arith
 size (negsuc n) a b m h p q = omega arith
 
-pub numerator-size : (v : ℕ) (s : Scale) → v ≤ 65536 → Measurable s → natAbs (pos v -ℤ pos (s .plus)) ≤ 2 ^ 24
+pub numerator-size : (v : ℕ) (s : Scale) → v ≤ M mostDepth → Measurable s → natAbs (pos v -ℤ pos (s .plus)) ≤ 2 ^ 24
 numerator-size v s l h = size (pos v -ℤ pos (s .plus)) v (s .plus) (2 ^ 24) (subtracted v (s .plus)) (omega arith) (omega arith)
 
 -- A quotient of two exact floats is the fraction, rounded once.
@@ -64,7 +65,7 @@ over : (z : ℤ) (n : ℕ) → natAbs z ≤ 2 ^ 24 → 0 < n → n ≤ 2 ^ 24 �
 over (pos m) n h p q = divided binary32 _ _ false m n p (exact (pos m) h) (exact (pos n) q)
 over (negsuc m) n h p q = divided binary32 _ _ true (suc m) n p (exact (negsuc m) h) (exact (pos n) q)
 
-pub one-rounding : (v : ℕ) (s : Scale) → v ≤ 65536 → Measurable s → floatQuotient v s ≡ nearestTo (pos v -ℤ pos (s .plus)) (s .times)
+pub one-rounding : (v : ℕ) (s : Scale) → v ≤ M mostDepth → Measurable s → floatQuotient v s ≡ nearestTo (pos v -ℤ pos (s .plus)) (s .times)
 one-rounding v s l h = over (pos v -ℤ pos (s .plus)) (s .times) (numerator-size v s l h) (h .some) (omega arith)
 
 -- What `f32::to_bits` asks of a level.
@@ -91,6 +92,6 @@ nearest-number : (z : ℤ) (n : ℕ) → IsNumber (nearestTo z n)
 nearest-number (pos m) n = round-number binary32 false m n
 nearest-number (negsuc m) n = round-number binary32 true (suc m) n
 
-pub is-number : (v : ℕ) (s : Scale) → v ≤ 65536 → Measurable s → IsNumber (floatQuotient v s)
+pub is-number : (v : ℕ) (s : Scale) → v ≤ M mostDepth → Measurable s → IsNumber (floatQuotient v s)
 is-number v s l h =
     subst IsNumber (sym (one-rounding v s l h)) (nearest-number (pos v -ℤ pos (s .plus)) (s .times))

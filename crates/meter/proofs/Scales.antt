@@ -4,7 +4,7 @@ use mathlib.Core.Bool.{Bool, true, false}
 use Prim.Native.Nat.{ℕ, _≤_}
 use native.Mathlib.Omega.{arith}
 use lib.IntN.{pos, _-ℤ_}
-use Rattle.sample.specs.Depth.{Depth, mostDepth}
+use Rattle.sample.specs.Depth.{Depth, mostDepth, M}
 use Rattle.sample.specs.declared.LumaDepth.{LumaDepth}
 use Rattle.sample.specs.declared.ChromaDepth.{ChromaDepth}
 use Rattle.sample.proofs.DepthLaws.{powers}
@@ -28,7 +28,7 @@ measurable Y full luma chroma h k = luma-measurable full luma h
 measurable Cb full luma chroma h k = chroma-measurable full chroma k
 measurable Cr full luma chroma h k = chroma-measurable full chroma k
 
-module _ (kind : SampleKind) (full : Bool) (luma : LumaDepth) (chroma : ChromaDepth) (h : Depth (luma .0)) (k : Depth (chroma .0)) (v : ℕ) (l : v ≤ 65536) where
+module _ (kind : SampleKind) (full : Bool) (luma : LumaDepth) (chroma : ChromaDepth) (h : Depth (luma .0)) (k : Depth (chroma .0)) (v : ℕ) (l : v ≤ M mostDepth) where
   -- the float nearest to the level's fraction
   pub level-rounded-once : levelOf kind full luma chroma v ≡ nearestTo (pos v -ℤ pos (scaleOf kind full luma chroma .plus)) (scaleOf kind full luma chroma .times)
   unfolding levelOf

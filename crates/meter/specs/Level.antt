@@ -5,6 +5,7 @@ use lib.Dec.{T}
 use lib.IntN.{ℤ, pos, negsuc, _-ℤ_}
 use lib.Ieee.{Float, binary32, round, ofInt, div, isNan}
 use lib.Ieee.Exact.{HasValue}
+use Rattle.sample.specs.Depth.{mostDepth, M}
 use Rattle.sample.specs.declared.LumaDepth.{LumaDepth}
 use Rattle.sample.specs.declared.ChromaDepth.{ChromaDepth}
 use Rattle.sample.specs.declared.Pixel.{Pixel}
@@ -60,8 +61,8 @@ IsNumber x = T (not (isNan x))
 abbrev pub AreNumbers : PixelLevels → Type 0
 AreNumbers l = IsNumber (l .y) × (IsNumber (l .cb) × IsNumber (l .cr))
 
--- a scale of any depth from 8 to 16
+-- a scale of any depth
 pub record Measurable (s : Scale) : Type 0 where
   pub some : 0 < s .times
-  pub times-in : s .times ≤ 65536
-  pub plus-in : s .plus ≤ 65536
+  pub times-in : s .times ≤ M mostDepth
+  pub plus-in : s .plus ≤ M mostDepth

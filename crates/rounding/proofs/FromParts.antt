@@ -8,6 +8,7 @@ use lib.Signed.{mag}
 use mir.Syntax.{Width}
 use mir.Val.{SFits, hbits, toZ, ofZ}
 use mir.ValLaws.{toZ-ofZ}
+use Rattle.sample.specs.Depth.{M}
 use Rattle.rounding.specs.Rounding.{clip, Clip, round, sample}
 use Rattle.rounding.proofs.Difference.{Holds, Parts}
 
@@ -85,7 +86,7 @@ clip-most top (negsuc n) = omega arith
 
 -- so a sample that was clipped lies within its depth
 pub clipped : (n : ℕ) (z : ℤ) → Clip n z < 2 ^ n
-clipped n z = let u = clip-most (2 ^ n - 1) z in let v = pow-pos n in omega arith
+clipped n z = let u = clip-most (M n) z in let v = pow-pos n in omega arith
 
 pub clip-same : {s t : ℕ} {x y : ℤ} → s ≡ t → x ≡ y → clip s x ≡ clip t y
 clip-same p q = λ i. clip (p i) (q i)

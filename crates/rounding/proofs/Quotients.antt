@@ -4,6 +4,7 @@ use Prim.Native.Nat.{ℕ, _+_, _*_, _-_, _/_, _^_, _≤_, _<_, min}
 use native.Mathlib.Nat.{add-mul, mul-assoc, mul-left-comm, mul-right-comm, mul-le-mul-left, mul-le-mul-right, lt-of-mul-lt-mul-right, le-mul-of-pos-right, div-mul-le-self, le-div-iff-mul-le, div-lt-iff-lt-mul, lt-div-mul-add}
 use native.Mathlib.Omega.{arith}
 use lib.Arith.{digits-div}
+use Rattle.sample.specs.Depth.{pastSamples}
 
 -- f stands for c over d, in steps of p; u is n in steps of p. So u f is at most c times n over d.
 scaled : (c n u p f d : ℕ) → f * d ≤ c * p → u * p ≤ n → u * f * d ≤ c * n
@@ -18,7 +19,7 @@ pub product-low : (n s f d : ℕ) → f * d ≤ 2 ^ 48 * 2 ^ s → n / 2 ^ s * f
 product-low n s f d h = scaled (2 ^ 48) n (n / 2 ^ s) (2 ^ s) f d h (div-mul-le-self n (2 ^ s))
 
 -- a product x as above has room, and leads to no more than the quotient
-pub product-fits : (x n d : ℕ) → x * d ≤ 2 ^ 48 * n → n / 65536 < d → x < 2 ^ 64
+pub product-fits : (x n d : ℕ) → x * d ≤ 2 ^ 48 * n → n / pastSamples < d → x < 2 ^ 64
 product-fits x n d h l = lt-of-mul-lt-mul-right d {m = x} {n = 2 ^ 64} (omega arith)
 
 pub guess-low : (x n d : ℕ) → x * d ≤ 2 ^ 48 * n → x / 2 ^ 48 * d ≤ n
@@ -28,15 +29,15 @@ guess-low x n d h =
     omega arith
 
 -- the quotient, once less than the divisor is left over
-pub quotient-is : (n d q r : ℕ) → n / 65536 < d → q * d + r ≡ n → r < d → q ≡ min (n / d) 65536
+pub quotient-is : (n d q r : ℕ) → n / pastSamples < d → q * d + r ≡ n → r < d → q ≡ min (n / d) pastSamples
 quotient-is n d q r h e l =
     let is : n / d ≡ q = ap (λ x. x / d) (sym e) ∙ digits-div q l in
-    let small : n / d < 65536 = div-lt-iff-lt-mul {k = d} {x = n} {y = 65536} (omega arith) .1 (omega arith) in
+    let small : n / d < pastSamples = div-lt-iff-lt-mul {k = d} {x = n} {y = pastSamples} (omega arith) .1 (omega arith) in
     omega arith
 
-pub quotient-large : (n d : ℕ) → 0 < d → d ≤ n / 65536 → 65536 ≡ min (n / d) 65536
+pub quotient-large : (n d : ℕ) → 0 < d → d ≤ n / pastSamples → pastSamples ≡ min (n / d) pastSamples
 quotient-large n d s h =
-    let large : 65536 ≤ n / d = le-div-iff-mul-le {k = d} {x = 65536} {y = n} s .1 (omega arith) in
+    let large : pastSamples ≤ n / d = le-div-iff-mul-le {k = d} {x = pastSamples} {y = n} s .1 (omega arith) in
     omega arith
 
 -- one more, where the divisor is left over

@@ -1,6 +1,7 @@
 -- The three operations on whole numbers that the formulas use: ">> 1", Round and Clip.
 use Prim.Native.Nat.{ℕ, suc, _+_, _*_, _/_, _^_, _-_, _≤_, _<_, min}
 use lib.IntN.{ℤ, pos, negsuc, negℤ}
+use Rattle.sample.specs.Depth.{mostDepth, M}
 
 -- z >> 1: half of z, rounded down on both sides of zero. -(n + 1) becomes -(n / 2 + 1), so -1 becomes -1.
 unfoldable pub half : ℤ → ℤ
@@ -17,9 +18,9 @@ unfoldable pub clip : ℕ → ℤ → ℕ
 clip top (pos n) = min n top
 clip top (negsuc n) = 0
 
--- Clip, of a plane of the given depth: into 0..2^depth - 1
+-- Clip, of a plane of the given depth: into 0..M
 abbrev pub Clip : ℕ → ℤ → ℕ
-Clip depth z = clip (2 ^ depth - 1) z
+Clip depth z = clip (M depth) z
 
 -- a whole number as a sample: what it is where it is not negative
 unfoldable pub sample : ℤ → ℕ
@@ -33,4 +34,4 @@ pub record Rounds (p q den mid top : ℕ) : Type 0 where
   pub den-fits : 2 * den < 2 ^ 64
   pub den-some : 0 < den
   pub mid-in : mid ≤ top
-  pub top-small : top < 65536
+  pub top-small : top ≤ M mostDepth

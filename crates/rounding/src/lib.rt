@@ -2,15 +2,16 @@
 pub mod quotient;
 
 ghost use mathlib.Core.Path.{_≡_};
-ghost use Prim.Native.Nat.{_+_, _*_, _-_, _≤_, _<_, min};
+ghost use Prim.Native.Nat.{_+_, _*_, _-_, _≤_, min};
 ghost use lib.IntN.{pos, _+ℤ_, _-ℤ_};
+ghost use Rattle.sample.specs.Depth.{mostDepth, M};
 ghost use Rattle.rounding.specs.Rounding.{round, clip, Rounds};
 ghost use Rattle.rounding.specs.Quotient.{Divides};
 use quotient::Divisor;
 
 // mid - n, brought up to 0.
 fn lowered(n: u64, mid: u64) -> u16
-    requires { ⌜ mid < 65536 ⌝ }
+    requires { ⌜ mid ≤ M mostDepth ⌝ }
     ensures { λ r. ⌜ r ≡ mid - n ⌝ }
 {
     if mid < n {
@@ -22,7 +23,7 @@ fn lowered(n: u64, mid: u64) -> u16
 // mid + n, brought down to top.
 fn raised(n: u64, mid: u64, top: u64) -> u16
     requires { ⌜ mid ≤ top ⌝ }
-    requires { ⌜ top < 65536 ⌝ }
+    requires { ⌜ top ≤ M mostDepth ⌝ }
     ensures { λ r. ⌜ r ≡ min (mid + n) top ⌝ }
 {
     if top - mid < n {
@@ -61,7 +62,7 @@ pub fn round_clip_by(p: u64, q: u64, den: u64, by: Divisor, mid: u64, top: u64) 
 
 // Clip(p - q) into 0..top.
 pub fn clip_difference(p: u32, q: u32, top: u32) -> u16
-    requires { ⌜ top < 65536 ⌝ }
+    requires { ⌜ top ≤ M mostDepth ⌝ }
     ensures { λ r. ⌜ r ≡ clip top (pos p -ℤ pos q) ⌝ }
 {
     if p < q {

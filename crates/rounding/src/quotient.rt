@@ -2,6 +2,7 @@
 // for it and a shift come close from below, and what is left over says how far below.
 ghost use mathlib.Core.Path.{_≡_};
 ghost use Prim.Native.Nat.{_/_, _≤_, _<_, min};
+ghost use Rattle.sample.specs.Depth.{pastSamples};
 ghost use Rattle.rounding.specs.Quotient.{Divides};
 
 // A divisor, and 2^48 over its leading bits: `shift` says how many others there are.
@@ -43,17 +44,17 @@ pub fn divisor_of(over: u64) -> Divisor
     }
 }
 
-// n over the divisor, rounded down, or 65,536 where that is more.
+// n over the divisor, rounded down, or the first number past every sample where that is more.
 pub fn quotient(n: u64, by: Divisor) -> u64
     requires { ⌜ Divides by ⌝ }
-    ensures { λ r. ⌜ r ≡ min (n / by .over) 65536 ⌝ }
+    ensures { λ r. ⌜ r ≡ min (n / by .over) pastSamples ⌝ }
 {
     let over = by.over;
     let shift = by.shift;
     let factor = by.factor;
-    let past = n >> 16;
+    let past = n / sample::PAST_SAMPLES;
     if over <= past {
-        return 65536;
+        return sample::PAST_SAMPLES;
     }
     let mut found = ((n >> shift) * factor) >> 48;
     let mut rest = n - found * over;

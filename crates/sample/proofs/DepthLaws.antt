@@ -5,7 +5,7 @@ use Prim.Native.Nat.{ℕ, _+_, _*_, _-_, _^_, _≤_, _<_}
 use native.Mathlib.Omega.{arith}
 use borrow.Author.Tests.{le-leb, leb-true}
 use lib.Pow.{pow-pos, pow-add, pow-mono}
-use Rattle.sample.specs.Depth.{isDepth, Depth, areDepths, ThreeDepths, atMost}
+use Rattle.sample.specs.Depth.{leastDepth, isDepth, Depth, areDepths, ThreeDepths, atMost, H, S}
 use Rattle.sample.specs.declared.Depths.{Depths}
 use Rattle.sample.specs.declared.DepthsChecked.the-variants as checked
 use Rattle.sample.proofs.Choices.{both-true, le-and, cannot, chose-first, chose-second}
@@ -48,23 +48,23 @@ at-most-yes n d k = rw (le-leb _ _ (k .rgb), le-leb _ _ (k .luma), le-leb _ _ (k
 pub at-most-no : (n : ℕ) (d : Depths) → (AtMost n d → ⊥) → atMost n d ≡ false
 at-most-no n d f = cannot (atMost n d) (λ e. f (at-most-of n d e))
 
--- 2^d is 2·2^(d − 1), for d that is not 0
-pub doubles : (d : ℕ) → 1 ≤ d → 2 ^ d ≡ 2 * 2 ^ (d - 1)
+-- 2^d is 2·H, for d that is not 0
+pub doubles : (d : ℕ) → 1 ≤ d → 2 ^ d ≡ 2 * H d
 doubles d h = ap (λ n. 2 ^ n) (let e : d ≡ 1 + (d - 1) = omega arith in e) ∙ pow-add 2 1 (d - 1)
 
--- 2^d is 2·2^(d − 1) and 256·2^(d − 8), and at most 2^top
+-- 2^d is 2·H and 256·S, and at most 2^top
 pub record Powers (d top : ℕ) : Type 0 where
-  pub halves : 2 ^ d ≡ 2 * 2 ^ (d - 1)
-  pub bytes : 2 ^ d ≡ 256 * 2 ^ (d - 8)
-  pub some : 0 < 2 ^ (d - 8)
+  pub halves : 2 ^ d ≡ 2 * H d
+  pub bytes : 2 ^ d ≡ 2 ^ leastDepth * S d
+  pub some : 0 < S d
   pub most : 2 ^ d ≤ 2 ^ top
 
-pub powers : (d top : ℕ) → 8 ≤ d → d ≤ top → Powers d top
+pub powers : (d top : ℕ) → leastDepth ≤ d → d ≤ top → Powers d top
 powers d top h u =
     record {
-      halves = ap (λ n. 2 ^ n) (let e : d ≡ 1 + (d - 1) = omega arith in e) ∙ pow-add 2 1 (d - 1);
-      bytes = ap (λ n. 2 ^ n) (let e : d ≡ 8 + (d - 8) = omega arith in e) ∙ pow-add 2 8 (d - 8);
-      some = pow-pos (d - 8);
+      halves = doubles d (omega arith);
+      bytes = ap (λ n. 2 ^ n) (let e : d ≡ leastDepth + (d - leastDepth) = omega arith in e) ∙ pow-add 2 leastDepth (d - leastDepth);
+      some = pow-pos (d - leastDepth);
       most = pow-mono {j = top} u;
     }
 

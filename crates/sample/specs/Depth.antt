@@ -81,15 +81,20 @@ atMost n d = leb (d .rgb .0) n && (leb (d .luma .0) n && leb (d .chroma .0) n)
 abbrev pub M : ℕ → ℕ
 M depth = 2 ^ depth - 1
 
+-- the first number past the samples of every depth: 65,536
+abbrev pub pastSamples : ℕ
+pastSamples = 2 ^ mostDepth
+
 -- H, the middle of a plane of a chroma depth
 abbrev pub H : ℕ → ℕ
 H depth = 2 ^ (depth - 1)
 
--- r is 2^bits, of at most 16 bits
-pub record Power (bits r : ℕ) : Type 0 where
-  pub is : r ≡ 2 ^ bits
-  pub some : 0 < r
-  pub fits : r ≤ 65536
+abbrev pub middleOf : ChromaDepth → ℕ
+middleOf d = H (d .0)
+
+-- S, the step of narrow range: 2^s, where s is how many bits the depth has more than the least
+abbrev pub S : ℕ → ℕ
+S depth = 2 ^ (depth - leastDepth)
 
 -- a pixel whose samples lie within the depths of their planes
 pub record Inside (d0 d1 d2 : ℕ) (p : Pixel) : Type 0 where

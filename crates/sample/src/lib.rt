@@ -1,7 +1,7 @@
 // What every crate above speaks of: depths of three kinds that cannot be taken for each other, and a pixel.
 ghost use mathlib.Core.Path.{_≡_};
-ghost use Prim.Native.Nat.{_≤_, _<_};
-ghost use Rattle.sample.specs.Depth.{mostDepth, M, rgbChecked, lumaChecked, chromaChecked, depthsChecked, ThreeDepths, atMost, Power, tops};
+ghost use Prim.Native.Nat.{_^_, _≤_, _<_};
+ghost use Rattle.sample.specs.Depth.{mostDepth, Depth, rgbChecked, lumaChecked, chromaChecked, depthsChecked, ThreeDepths, atMost, M, middleOf, S, tops};
 
 // Three samples, by plane: R, G, B on one side and Y, Cb, Cr on the other.
 pub struct Pixel {
@@ -22,6 +22,9 @@ pub const LEAST_DEPTH: u8 = 8;
 pub const MOST_DEPTH: u8 = 16;
 
 pub const MOST_LEVEL_DEPTH: u8 = 12;
+
+// The first number past the samples of every depth.
+pub const PAST_SAMPLES: u64 = 1 << MOST_DEPTH;
 
 pub struct RgbDepth(pub u8);
 
@@ -67,6 +70,13 @@ impl RgbDepth {
     {
         largest(self.0)
     }
+
+    pub fn step(self) -> u16
+        requires { ⌜ Depth (self .0) ⌝ }
+        ensures { λ r. ⌜ r ≡ S (self .0) ⌝ }
+    {
+        step(self.0)
+    }
 }
 
 impl LumaDepth {
@@ -92,6 +102,13 @@ impl LumaDepth {
     {
         largest(self.0)
     }
+
+    pub fn step(self) -> u16
+        requires { ⌜ Depth (self .0) ⌝ }
+        ensures { λ r. ⌜ r ≡ S (self .0) ⌝ }
+    {
+        step(self.0)
+    }
 }
 
 impl ChromaDepth {
@@ -116,6 +133,23 @@ impl ChromaDepth {
         ensures { λ r. ⌜ r ≡ M (self .0) ⌝ }
     {
         largest(self.0)
+    }
+
+    pub fn step(self) -> u16
+        requires { ⌜ Depth (self .0) ⌝ }
+        ensures { λ r. ⌜ r ≡ S (self .0) ⌝ }
+    {
+        step(self.0)
+    }
+
+    // H, the middle of the plane.
+    pub fn middle(self) -> u16
+        requires { ⌜ 1 ≤ self .0 ⌝ }
+        requires { ⌜ self .0 ≤ mostDepth ⌝ }
+        ensures { λ r. ⌜ r ≡ middleOf self ⌝ }
+    {
+        let depth = self.0;
+        power(depth - 1)
     }
 }
 
@@ -189,19 +223,27 @@ impl Depths {
     }
 }
 
-// 2^bits
-pub fn power(bits: u8) -> u32
-    requires { ⌜ bits ≤ mostDepth ⌝ }
-    ensures { λ r. ⌜ Power bits r ⌝ }
+// 2^bits, for less bits than the deepest sample has.
+fn power(bits: u8) -> u16
+    requires { ⌜ bits < mostDepth ⌝ }
+    ensures { λ r. ⌜ r ≡ 2 ^ bits ⌝ }
 {
-    1u32 << bits
+    1u16 << bits
 }
 
 // M, the largest sample of a depth.
-pub fn largest(depth: u8) -> u16
+fn largest(depth: u8) -> u16
     requires { ⌜ depth ≤ mostDepth ⌝ }
     ensures { λ r. ⌜ r ≡ M depth ⌝ }
 {
-    let count = power(depth);
+    let count = 1u32 << depth;
     (count - 1) as u16
+}
+
+// S, the step of narrow range.
+fn step(depth: u8) -> u16
+    requires { ⌜ Depth depth ⌝ }
+    ensures { λ r. ⌜ r ≡ S depth ⌝ }
+{
+    power(depth - LEAST_DEPTH)
 }

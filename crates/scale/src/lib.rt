@@ -1,7 +1,7 @@
-// What samples stand for. Formulas and the meter read them alike, and 219, 16, 224 and 128 stand here alone.
+// What samples stand for. Formulas and the meter read them alike, and the numbers of narrow range stand here alone.
 ghost use mathlib.Core.Path.{_≡_};
 ghost use Rattle.sample.specs.Depth.{Depth};
-ghost use Rattle.scale.specs.Scale.{lightScale, rgbScale, lumaScale, chromaScale};
+ghost use Rattle.scale.specs.Scale.{lightBy, rgbScale, lumaScale, chromaScale};
 use sample::ChromaDepth;
 use sample::LumaDepth;
 use sample::RgbDepth;
@@ -12,18 +12,27 @@ pub struct Scale {
     pub plus: u64,
 }
 
-// R, G, B and Y are read alike.
-fn light_scale(full: bool, depth: u8) -> Scale
-    requires { ⌜ Depth depth ⌝ }
-    ensures { λ r. ⌜ r ≡ lightScale full depth ⌝ }
+// Narrow range, in steps: from black to white and where black lies, and as far as chroma goes and where no colour lies.
+const LIGHT_SPAN: u64 = 219;
+
+const BLACK: u64 = 16;
+
+const CHROMA_SPAN: u64 = 224;
+
+const GREY: u64 = 128;
+
+// R, G, B and Y are read alike, by the largest sample and the step of their depth.
+fn light_scale(full: bool, top: u16, step: u16) -> Scale
+    ensures { λ r. ⌜ r ≡ lightBy full top step ⌝ }
 {
     if full {
-        let times = sample::largest(depth) as u64;
-        return Scale { times, plus: 0 };
+        return Scale {
+            times: top as u64,
+            plus: 0,
+        };
     }
-    let step = sample::power(depth - 8) as u64;
-    let times = 219 * step;
-    let plus = 16 * step;
+    let times = LIGHT_SPAN * step as u64;
+    let plus = BLACK * step as u64;
     Scale { times, plus }
 }
 
@@ -31,28 +40,27 @@ pub fn rgb_scale(full: bool, d: RgbDepth) -> Scale
     requires { ⌜ Depth (d .0) ⌝ }
     ensures { λ r. ⌜ r ≡ rgbScale full d ⌝ }
 {
-    light_scale(full, d.0)
+    light_scale(full, d.largest(), d.step())
 }
 
 pub fn luma_scale(full: bool, d: LumaDepth) -> Scale
     requires { ⌜ Depth (d .0) ⌝ }
     ensures { λ r. ⌜ r ≡ lumaScale full d ⌝ }
 {
-    light_scale(full, d.0)
+    light_scale(full, d.largest(), d.step())
 }
 
 pub fn chroma_scale(full: bool, d: ChromaDepth) -> Scale
     requires { ⌜ Depth (d .0) ⌝ }
     ensures { λ r. ⌜ r ≡ chromaScale full d ⌝ }
 {
-    let depth = d.0;
     if full {
-        let times = sample::largest(depth) as u64;
-        let plus = sample::power(depth - 1) as u64;
+        let times = d.largest() as u64;
+        let plus = d.middle() as u64;
         return Scale { times, plus };
     }
-    let step = sample::power(depth - 8) as u64;
-    let times = 224 * step;
-    let plus = 128 * step;
+    let step = d.step() as u64;
+    let times = CHROMA_SPAN * step;
+    let plus = GREY * step;
     Scale { times, plus }
 }

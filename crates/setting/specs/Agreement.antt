@@ -3,7 +3,10 @@ use mathlib.Core.Bool.{Bool, true, false, _&&_, not}
 use Prim.Native.Nat.{ℕ, _+_}
 use lib.Dec.{eqb, leb}
 use Rattle.sample.specs.Depth.{areDepths, atMost, depthsOf}
+use Rattle.sample.specs.declared.ChromaDepth.{ChromaDepth}
 use Rattle.sample.specs.declared.Depths.{Depths}
+use Rattle.sample.specs.declared.LumaDepth.{LumaDepth}
+use Rattle.sample.specs.declared.RgbDepth.{RgbDepth}
 use Rattle.setting.specs.declared.Call.{Call}
 use Rattle.setting.specs.declared.Call.the-variants.{Convert, Meter, ImageCheck}
 use Rattle.setting.specs.declared.matrix.Bond.{Bond}
@@ -21,18 +24,22 @@ abbrev pub same : Bool → Bool → Bool
 same true b = b
 same false b = not b
 
+-- Y has some bits more than RGB
+abbrev pub isDeeper : LumaDepth → RgbDepth → ℕ → Bool
+isDeeper luma rgb added = eqb (luma .0) (rgb .0 + added)
+
 -- the RGB side goes with the other
 abbrev pub bonded : Bond → Depths → Bool → Bool → Bool
-bonded (Bits n) d rgbFull yccFull = eqb (d .luma .0) (d .rgb .0 + n) && same rgbFull yccFull
+bonded (Bits n) d rgbFull yccFull = isDeeper (d .luma) (d .rgb) n && same rgbFull yccFull
 bonded Free d rgbFull yccFull = true
 
 -- chroma is as deep as Y, or deeper by some bits at most
-abbrev pub deeperBy : ℕ → ℕ → ℕ → Bool
-deeperBy most luma chroma = leb luma chroma && leb chroma (luma + most)
+abbrev pub deeperBy : ℕ → LumaDepth → ChromaDepth → Bool
+deeperBy most luma chroma = leb (luma .0) (chroma .0) && leb (chroma .0) (luma .0 + most)
 
 -- rule 7 speaks of depths and flags for which this is false
 unfoldable pub agree : Entry → Depths → Bool → Bool → Bool
-agree e d rgbFull yccFull = bonded (e .bond) d rgbFull yccFull && deeperBy (e .«chroma_bits») (d .luma .0) (d .chroma .0)
+agree e d rgbFull yccFull = bonded (e .bond) d rgbFull yccFull && deeperBy (e .«chroma_bits») (d .luma) (d .chroma)
 
 -- of the settings that agree, those that lose nothing
 abbrev pub keeps : Lossless → Depths → Bool

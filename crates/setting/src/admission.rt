@@ -1,10 +1,8 @@
 // Who is let in: the rules on a setting, in their order. Past rule 6 only the depth types are passed on.
 ghost use mathlib.Core.Path.{_≡_};
 ghost use mathlib.Core.Bool.{_&&_};
-ghost use Prim.Native.Nat.{_+_};
-ghost use lib.Dec.{eqb};
 ghost use Rattle.refusal.specs.Rules.{first, numbered};
-ghost use Rattle.setting.specs.Agreement.{same, bonded, deeperBy, agree, keeps, answers};
+ghost use Rattle.setting.specs.Agreement.{same, isDeeper, bonded, deeperBy, agree, keeps, answers};
 ghost use Rattle.setting.specs.Rules.{depthRules, entryRules, servedDepths, servedBy, admitted, settingAdmission};
 use crate::Call;
 use crate::Setting;
@@ -16,8 +14,11 @@ use crate::matrix::Formulas;
 use crate::matrix::Lossless;
 use crate::matrix::Matrix;
 use refusal::Refusal;
+use sample::ChromaDepth;
 use sample::Depths;
 use sample::DepthsChecked;
+use sample::LumaDepth;
+use sample::RgbDepth;
 
 // A setting that is not refused.
 pub struct Served {
@@ -70,17 +71,19 @@ fn are_same(a: bool, b: bool) -> bool
     !b
 }
 
-// Whether one depth is another and `added` bits more.
-fn is_deeper(depth: u8, other: u8, added: u8) -> bool
-    ensures { λ r. ⌜ r ≡ eqb depth (other + added) ⌝ }
+// Whether Y has `added` bits more than RGB.
+fn is_deeper(luma: LumaDepth, rgb: RgbDepth, added: u8) -> bool
+    ensures { λ r. ⌜ r ≡ isDeeper luma rgb added ⌝ }
 {
-    depth as u16 == other as u16 + added as u16
+    luma.0 as u16 == rgb.0 as u16 + added as u16
 }
 
 // Whether chroma is as deep as Y, or deeper by `most` bits at most.
-fn deeper_by(most: u8, luma: u8, chroma: u8) -> bool
+fn deeper_by(most: u8, luma: LumaDepth, chroma: ChromaDepth) -> bool
     ensures { λ r. ⌜ r ≡ deeperBy most luma chroma ⌝ }
 {
+    let luma = luma.0;
+    let chroma = chroma.0;
     if chroma < luma {
         return false;
     }
@@ -90,8 +93,8 @@ fn deeper_by(most: u8, luma: u8, chroma: u8) -> bool
 fn is_bonded(bond: Bond, d: Depths, rgb_full: bool, ycc_full: bool) -> bool
     ensures { λ r. ⌜ r ≡ bonded bond d «rgb_full» «ycc_full» ⌝ }
 {
-    let rgb = d.rgb.0;
-    let luma = d.luma.0;
+    let rgb = d.rgb;
+    let luma = d.luma;
     match bond {
         Bond::Bits(added) => both(is_deeper(luma, rgb, added), are_same(rgb_full, ycc_full)),
         Bond::Free => true,
@@ -104,8 +107,8 @@ fn agree(e: Entry, d: Depths, rgb_full: bool, ycc_full: bool) -> bool
 {
     let bond = e.bond;
     let most = e.chroma_bits;
-    let luma = d.luma.0;
-    let chroma = d.chroma.0;
+    let luma = d.luma;
+    let chroma = d.chroma;
     both(
         is_bonded(bond, d, rgb_full, ycc_full),
         deeper_by(most, luma, chroma),

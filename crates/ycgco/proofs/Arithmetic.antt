@@ -4,6 +4,7 @@ use Prim.Native.Nat.{ℕ, _+_, _-_, _*_, _/_, _≤_, _<_}
 use native.Mathlib.Omega.{arith}
 use lib.IntN.{ℤ, pos, _+ℤ_, _-ℤ_, _*ℤ_}
 use Rattle.rounding.specs.Rounding.{half, round, clip, sample}
+use Rattle.sample.specs.Depth.{mostDepth, M}
 use Rattle.rounding.proofs.Difference.{parts}
 use Rattle.rounding.proofs.FromParts.{same, is-sample, round-up, clip-within}
 
@@ -50,11 +51,11 @@ module _ (r g b : ℕ) where
   pub sum-round : round Sum 4 ≡ pos ((2 * (2 * g + r + b) + 4) / 8)
   sum-round = round-up (2 * g + r + b) 4 (search parts) (omega arith)
 
-  pub lossy-y : r < 65536 → g < 65536 → b < 65536 → clip 65535 (round (pos (2 * g + r + b) -ℤ pos 0) 4 +ℤ pos 0) ≡ sample (round Sum 4)
+  pub lossy-y : r ≤ M mostDepth → g ≤ M mostDepth → b ≤ M mostDepth → clip (M mostDepth) (round (pos (2 * g + r + b) -ℤ pos 0) 4 +ℤ pos 0) ≡ sample (round Sum 4)
   unfolding sample
   lossy-y hr hg hb =
       let e : pos (2 * g + r + b) -ℤ pos 0 ≡ Sum = same (search parts) (search parts) (omega arith) in
-      rw (e, sum-round) (clip-within 65535 ((2 * (2 * g + r + b) + 4) / 8) (search parts) (omega arith) (omega arith))
+      rw (e, sum-round) (clip-within (M mostDepth) ((2 * (2 * g + r + b) + 4) / 8) (search parts) (omega arith) (omega arith))
 
   pub lossy-cb : pos (2 * g) -ℤ pos (r + b) ≡ pos 2 *ℤ pos g -ℤ pos r -ℤ pos b
   lossy-cb = same (search parts) (search parts) (omega arith)

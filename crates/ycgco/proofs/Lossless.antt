@@ -8,7 +8,7 @@ use lib.Pow.{pow-mono}
 use Rattle.rounding.specs.Rounding.{half, clip}
 use Rattle.rounding.proofs.Difference.{parts}
 use Rattle.rounding.proofs.FromParts.{is-pos, clip-within}
-use Rattle.sample.specs.Depth.{InsideRGB, InsideYCC}
+use Rattle.sample.specs.Depth.{M, H, InsideRGB, InsideYCC}
 use Rattle.sample.specs.declared.Depths.{Depths}
 use Rattle.sample.specs.declared.Pixel.{Pixel}
 use Rattle.sample.proofs.DepthLaws.{doubles}
@@ -19,7 +19,7 @@ abbrev t : Pixel → ℕ
 t p = (p .p0 + p .p2) / 2
 
 abbrev middle : Depths → ℕ
-middle d = 2 ^ (d .chroma .0 - 1)
+middle d = H (d .chroma .0)
 
 -- the samples of forward, as natural numbers
 abbrev plainly : Depths → Pixel → Pixel
@@ -59,7 +59,7 @@ module _ (d : Depths) (p : Pixel) (k : LosslessDepths d) (h : InsideRGB d p) whe
       (is-pos _ (search parts depth 20) (omega arith), (is-pos _ (search parts depth 20) (omega arith), is-pos _ (search parts depth 20) (omega arith)))
 
   abbrev top : ℕ
-  top = 2 ^ d .rgb .0 - 1
+  top = M (d .rgb .0)
 
   abbrev q : Pixel
   q = plainly d p

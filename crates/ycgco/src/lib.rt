@@ -10,13 +10,12 @@ pub fn lossy_forward(d: Depths, p: Pixel) -> Pixel
     requires { ⌜ LossyDepths d ⌝ }
     ensures { λ r. ⌜ r ≡ lossyForward d p ⌝ }
 {
-    let c = d.chroma.0;
-    let h = sample::power(c - 1) as u64;
-    let top = sample::power(c) as u64 - 1;
+    let h = d.chroma.middle() as u64;
+    let top = d.chroma.largest() as u64;
     let r = p.p0 as u64;
     let g = p.p1 as u64;
     let b = p.p2 as u64;
-    let p0 = rounding::round_clip(2 * g + r + b, 0, 4, 0, 65535);
+    let p0 = rounding::round_clip(2 * g + r + b, 0, 4, 0, sample::PAST_SAMPLES - 1);
     let p1 = rounding::round_clip(2 * g, r + b, 4, h, top);
     let p2 = rounding::round_clip(r, b, 2, h, top);
     Pixel { p0, p1, p2 }
@@ -27,10 +26,8 @@ pub fn lossy_reverse(d: Depths, p: Pixel) -> Pixel
     requires { ⌜ LossyDepths d ⌝ }
     ensures { λ r. ⌜ r ≡ lossyReverse d p ⌝ }
 {
-    let c = d.chroma.0;
-    let n = d.rgb.0;
-    let h = sample::power(c - 1);
-    let top = sample::power(n) - 1;
+    let h = d.chroma.middle() as u32;
+    let top = d.rgb.largest() as u32;
     let y = p.p0 as u32;
     let cb = p.p1 as u32;
     let cr = p.p2 as u32;
@@ -46,8 +43,7 @@ pub fn lossless_forward(d: Depths, p: Pixel) -> Pixel
     requires { ⌜ InsideRGB d p ⌝ }
     ensures { λ r. ⌜ r ≡ losslessForward d p ⌝ }
 {
-    let c = d.chroma.0;
-    let h = sample::power(c - 1);
+    let h = d.chroma.middle() as u32;
     let r = p.p0 as u32;
     let g = p.p1 as u32;
     let b = p.p2 as u32;
@@ -67,10 +63,8 @@ pub fn lossless_reverse(d: Depths, p: Pixel) -> Pixel
     requires { ⌜ LosslessDepths d ⌝ }
     ensures { λ r. ⌜ r ≡ losslessReverse d p ⌝ }
 {
-    let c = d.chroma.0;
-    let n = d.rgb.0;
-    let h = sample::power(c - 1);
-    let top = sample::power(n) - 1;
+    let h = d.chroma.middle() as u32;
+    let top = d.rgb.largest() as u32;
     let y = p.p0 as u32;
     let cb = p.p1 as u32;
     let cr = p.p2 as u32;

@@ -9,16 +9,20 @@ use Rattle.levels.proofs.forward_lines.Tie as tie
 
 module _ (c : tie.After-writer-of2) where
   abbrev start : tie.Start
-  start = c .before .before .before .before .before .before .before .before .before .before
+  start = c .before .before .before .before .before .before .before .before .before
 
-  from-is : c .before .before .before .before .readers-of-rgb .result ≡ readersOfRgb (rgbOf (start .args .s))
-  from-is = c .before .before .before .before .readers-of-rgb .ensures ∙ ap readersOfRgb (c .before .before .before .before .before .rgb-scale .ensures)
+  from-is : c .before .before .before .before .before .before .readers-of-rgb .result ≡ readersOfRgb (rgbOf (start .args .s))
+  from-is = c .before .before .before .before .before .before .readers-of-rgb .ensures ∙ ap readersOfRgb (c .before .before .before .before .before .before .before .rgb-scale .ensures)
 
-  light-is : c .before .before .writer-of .result ≡ lumaWriter (start .args .s)
-  light-is = c .before .before .writer-of .ensures ∙ ap (λ x. writerOf (start .args .s .«ycc_full») x (start .args .s .depths .luma .0)) (c .before .before .before .luma-scale .ensures)
+  light-is : c .before .before .before .writer-of .result ≡ lumaWriter (start .args .s)
+  light-is =
+      c .before .before .before .writer-of .ensures
+      ∙ (λ i. writerOf (start .args .s .«ycc_full») (c .before .before .before .before .before .luma-scale .ensures i) (c .before .before .before .before .largest .ensures i))
 
   colour-is : c .writer-of2 .result ≡ chromaWriter (start .args .s)
-  colour-is = c .writer-of2 .ensures ∙ ap (λ x. writerOf (start .args .s .«ycc_full») x (start .args .s .depths .chroma .0)) (c .before .chroma-scale .ensures)
+  colour-is =
+      c .writer-of2 .ensures
+      ∙ (λ i. writerOf (start .args .s .«ycc_full») (c .before .before .chroma-scale .ensures i) (c .before .largest2 .ensures i))
 
 lines-of-requires : tie.Need-lines-of-requires
 lines-of-requires c κs =
@@ -36,7 +40,4 @@ returns : tie.Need-returns
 returns c = let e = c .before in prepared-as (from-is e) (light-is e) (colour-is e) (c .lines-of .ensures)
 
 pub forward-lines-spec : {M : Type 1} → statement M
-forward-lines-spec =
-    tie.close
-    (tie.spec (λ c κs. search needs) (λ c κs. search needs) (λ c κs. search needs) (λ c κs. search needs)
-    (λ c κs. search needs) (λ c κs. search needs) lines-of-requires returns)
+forward-lines-spec = tie.close (tie.spec (λ c κs. search needs) (λ c κs. search needs) (λ c κs. search needs) (λ c κs. search needs) (λ c κs. search needs) (λ c κs. search needs) (λ c κs. search needs) (λ c κs. search needs) lines-of-requires returns)

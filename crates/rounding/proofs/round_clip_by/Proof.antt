@@ -1,14 +1,15 @@
--- `rounding::round_clip_by` meets its contract as `round_clip` does: a quotient that stops at 65,536 is past every top.
+-- `rounding::round_clip_by` meets its contract as `round_clip` does: a quotient that stops past every sample is past every top.
 use mathlib.Core.Path.{_≡_, ap, _∙_}
 use Prim.Native.Nat.{ℕ, _*_, _/_, min}
 use native.Mathlib.Omega.{arith}
 use borrow.Author.Needs.{needs}
+use Rattle.sample.specs.Depth.{pastSamples}
 use Rattle.rounding.proofs.Rounding.{below-zero, from-zero}
 use Rattle.rounding.proofs.round_clip_by.Statement.{statement}
 use Rattle.rounding.proofs.round_clip_by.Tie as tie
 
 -- the quotient by what stands for twice the denominator
-by-twice : (n over den r : ℕ) → over ≡ 2 * den → r ≡ min (n / over) 65536 → min r 65536 ≡ min (n / (2 * den)) 65536
+by-twice : (n over den r : ℕ) → over ≡ 2 * den → r ≡ min (n / over) pastSamples → min r pastSamples ≡ min (n / (2 * den)) pastSamples
 by-twice n over den r e is = let same : n / over ≡ n / (2 * den) = ap (λ d. n / d) e in omega arith
 
 returns : tie.Need-returns

@@ -3,14 +3,6 @@ use borrow.Author.Needs.{needs}
 use Rattle.scale.proofs.light_scale.Statement.{statement}
 use Rattle.scale.proofs.light_scale.Tie as tie
 
-returns : tie.Need-returns
-returns c = rw (c .before .if1 .taken, c .largest .ensures)
-
-returns-2 : tie.Need-returns-2
-returns-2 c = rw (c .before .if1 .left, c .power .ensures .is)
-
 pub light-scale-spec : {M : Type 1} → statement M
 light-scale-spec =
-    tie.close
-    (tie.spec (λ c κs. search needs) (λ c. search needs) returns (λ c. search needs) (λ c κs. search needs)
-    (λ c. search needs) (λ c. search needs) (λ c. search needs) returns-2)
+    tie.close (tie.spec (λ c. rw (c .if1 .taken)) (λ c. search needs) (λ c. search needs) (λ c. rw (c .if1 .left)))

@@ -11,4 +11,4 @@ returns-2 : tie.Need-returns-2
 returns-2 c = rw (le-leb _ _ (c .if1 .left))
 
 pub deeper-by-spec : {M : Type 1} → statement M
-deeper-by-spec = tie.close (tie.spec returns (λ c. search needs) returns-2)
+deeper-by-spec = tie.close (tie.spec returns (λ c. search needs) (λ c. search needs) (λ c. search needs) returns-2)
