@@ -8,15 +8,11 @@ use Rattle.sample.specs.declared.Pixel.{Pixel}
 use Rattle.scale.specs.Scale.{level}
 use Rattle.levels.specs.Equations.{levelBy, lumaMatrix}
 use Rattle.levels.specs.Conversion.{Formula, Shares, EquationsFit, MatrixFits, LevelDepths, rgbOf, lumaOf, chromaOf, toYcc, toRgb, levelsForward, levelsReverse, lumaForward, lumaReverse}
-use Rattle.levels.specs.Lines.{reader, read, readersOfRgb, readersOfYcc, rgbWriter, lumaWriter, chromaWriter, lineOf, lineSample, linesPixel}
-use Rattle.levels.specs.Room.{Prepared}
+use Rattle.levels.specs.Lines.{reader, read, readersOfRgb, readersOfYcc, forwardLines, reverseLines, linesPixel}
 use Rattle.levels.specs.declared.LevelSetting.{LevelSetting}
 use Rattle.levels.specs.declared.equations.Equations.{Equations}
 use Rattle.levels.specs.declared.equations.LevelMatrix.{LevelMatrix}
 use Rattle.levels.specs.declared.equations.Weights.{Weights}
-use Rattle.levels.specs.declared.lines.Lines.{Lines}
-use Rattle.levels.specs.declared.lines.Readers.{Readers}
-use Rattle.levels.specs.declared.lines.Writer.{Writer}
 use Rattle.levels.proofs.Bounds as bounds
 use Rattle.levels.proofs.Formulas.{Gives, by-equation, gives-y, gives-pb, gives-pr, gives-r, gives-g, gives-b}
 use Rattle.levels.proofs.Writing.{rgb-value, luma-value, chroma-value, light-sample, chroma-sample}
@@ -36,19 +32,6 @@ by-equations e h =
       third = by-equation (e .third) (h .third .some);
     }
 
--- the pixel of three equations' lines
-abbrev lined : Equations → Readers → Writer → Writer → Pixel → Pixel
-lined e from t u p =
-    record {
-      p0 = lineSample (lineOf (e .first) from t) p;
-      p1 = lineSample (lineOf (e .second) from u) p;
-      p2 = lineSample (lineOf (e .third) from u) p;
-    }
-
-prepared-lined : {e : Equations} {from : Readers} {t u : Writer} {l : Lines} → Prepared e from t u l → (p : Pixel) → linesPixel l p ≡ lined e from t u p
-prepared-lined q p =
-    λ i. record { p0 = lineSample (q .first .is i) p; p1 = lineSample (q .second .is i) p; p2 = lineSample (q .third .is i) p }
-
 module _ (s : LevelSetting) (h : LevelDepths s) (p : Pixel) where
   -- what the samples of p stand for, on either side
   of-rgb : (v : ℕ) → Value (level (rgbOf s) v) (read (reader 1 (rgbOf s .plus)) v) (rgbOf s .times)
@@ -61,7 +44,8 @@ module _ (s : LevelSetting) (h : LevelDepths s) (p : Pixel) where
   of-chroma v = chroma-value (lumaOf s) (chromaOf s) v (chroma-fits s h .some)
 
   module _ (e : Equations) (k : EquationsFit e) {f g j : Formula} (a : AllGive f g j e) where
-    pub forward-by : lined e (readersOfRgb (rgbOf s)) (lumaWriter s) (chromaWriter s) p ≡ toYcc s f g j p
+    pub forward-by : linesPixel (forwardLines e s) p ≡ toYcc s f g j p
+    unfolding forwardLines
     forward-by =
         let from = readersOfRgb (rgbOf s) in
         let some = rgb-fits s h .some in
@@ -75,7 +59,8 @@ module _ (s : LevelSetting) (h : LevelDepths s) (p : Pixel) where
           p2 = chroma-sample (e .third) from p (a .third .value r t b) (mul-pos (k .third .some) some) (s .«ycc_full») (s .depths .chroma) i;
         }
 
-    pub reverse-by : lined e (readersOfYcc (lumaOf s) (chromaOf s)) (rgbWriter s) (rgbWriter s) p ≡ toRgb s f g j p
+    pub reverse-by : linesPixel (reverseLines e s) p ≡ toRgb s f g j p
+    unfolding reverseLines
     reverse-by =
         let from = readersOfYcc (lumaOf s) (chromaOf s) in
         let some = mul-pos (chroma-fits s h .some) (luma-fits s h .some) in
@@ -90,14 +75,14 @@ module _ (s : LevelSetting) (h : LevelDepths s) (p : Pixel) where
         }
 
   -- the lines of a matrix
-  module _ (m : LevelMatrix) (k : MatrixFits m) (l : Lines) where
-    pub forward-law : Prepared (m .forward) (readersOfRgb (rgbOf s)) (lumaWriter s) (chromaWriter s) l → linesPixel l p ≡ levelsForward m s p
+  module _ (m : LevelMatrix) (k : MatrixFits m) where
+    pub forward-law : linesPixel (forwardLines (m .forward) s) p ≡ levelsForward m s p
     unfolding levelsForward
-    forward-law q = prepared-lined q p ∙ forward-by (m .forward) (k .forward) (by-equations (m .forward) (k .forward))
+    forward-law = forward-by (m .forward) (k .forward) (by-equations (m .forward) (k .forward))
 
-    pub reverse-law : Prepared (m .reverse) (readersOfYcc (lumaOf s) (chromaOf s)) (rgbWriter s) (rgbWriter s) l → linesPixel l p ≡ levelsReverse m s p
+    pub reverse-law : linesPixel (reverseLines (m .reverse) s) p ≡ levelsReverse m s p
     unfolding levelsReverse
-    reverse-law q = prepared-lined q p ∙ reverse-by (m .reverse) (k .reverse) (by-equations (m .reverse) (k .reverse))
+    reverse-law = reverse-by (m .reverse) (k .reverse) (by-equations (m .reverse) (k .reverse))
 
   -- a luma matrix is the printed formulas
   module _ (k : Weights) (w : Shares k) where

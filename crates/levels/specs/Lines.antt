@@ -3,6 +3,7 @@ use mathlib.Core.Bool.{Bool, true, false}
 use Prim.Native.Nat.{ℕ, _+_, _*_}
 use lib.IntN.{ℤ, pos, _+ℤ_, _-ℤ_, _*ℤ_}
 use Rattle.rounding.specs.Rounding.{round, clip}
+use Rattle.rounding.specs.Quotient.{divisorOf}
 use Rattle.sample.specs.declared.Pixel.{Pixel}
 use Rattle.sample.specs.Depth.{M}
 use Rattle.levels.specs.Conversion.{rgbOf, lumaOf, chromaOf}
@@ -11,7 +12,9 @@ use Rattle.scale.specs.declared.Scale.{Scale}
 use Rattle.levels.specs.declared.LevelSetting.{LevelSetting}
 use Rattle.levels.specs.declared.lines.Line.{Line}
 use Rattle.levels.specs.declared.lines.Lines.{Lines}
+use Rattle.levels.specs.declared.lines.ReadyLine.{ReadyLine}
 use Rattle.levels.specs.declared.equations.Equation.{Equation}
+use Rattle.levels.specs.declared.equations.Equations.{Equations}
 use Rattle.levels.specs.declared.lines.Reader.{Reader}
 use Rattle.levels.specs.declared.lines.Readers.{Readers}
 use Rattle.levels.specs.declared.lines.Writer.{Writer}
@@ -75,6 +78,29 @@ lineOf w from to =
       mid = to .mid;
       top = to .top;
     }
+
+-- with what stands for its divisor, which is twice its denominator
+abbrev pub readyLine : Equation → Readers → Writer → ReadyLine
+readyLine w from to =
+    let l = lineOf w from to in
+    record { line = l; by = divisorOf (2 * l .equation .over) }
+
+-- the lines of three equations, the first into one plane and the others into two alike
+abbrev pub linesOf : Equations → Readers → Writer → Writer → Lines
+linesOf e from light colour =
+    record {
+      first = readyLine (e .first) from light;
+      second = readyLine (e .second) from colour;
+      third = readyLine (e .third) from colour;
+    }
+
+-- R, G, B to Y, Cb, Cr, prepared
+unfoldable pub forwardLines : Equations → LevelSetting → Lines
+forwardLines e s = linesOf e (readersOfRgb (rgbOf s)) (lumaWriter s) (chromaWriter s)
+
+-- and Y, Cb, Cr to R, G, B
+unfoldable pub reverseLines : Equations → LevelSetting → Lines
+reverseLines e s = linesOf e (readersOfYcc (lumaOf s) (chromaOf s)) (rgbWriter s) (rgbWriter s)
 
 -- a line's numerator at a pixel, and its sample: one Round, one Clip
 abbrev pub lineAt : Line → Pixel → ℤ

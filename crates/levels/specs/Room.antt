@@ -2,15 +2,12 @@
 use mathlib.Core.Path.{_≡_}
 use Prim.Native.Nat.{ℕ, _+_, _*_, _≤_, _<_}
 use Rattle.rounding.specs.Quotient.{Divides}
-use Rattle.rounding.specs.declared.quotient.Divisor.{Divisor}
 use Rattle.sample.specs.Depth.{mostLevelDepth, S}
 use Rattle.scale.specs.Scale.{black, grey}
 use Rattle.scale.specs.declared.Scale.{Scale}
 use Rattle.levels.specs.Conversion.{total, mostTotal, mostSample}
 use Rattle.levels.specs.Equations.{allParts}
-use Rattle.levels.specs.Lines.{lineOf}
 use Rattle.levels.specs.declared.equations.Equation.{Equation}
-use Rattle.levels.specs.declared.equations.Equations.{Equations}
 use Rattle.levels.specs.declared.lines.Line.{Line}
 use Rattle.levels.specs.declared.lines.Lines.{Lines}
 use Rattle.levels.specs.declared.lines.ReadyLine.{ReadyLine}
@@ -78,13 +75,3 @@ pub record AllReady (l : Lines) : Type 0 where
   pub first : LineReady (l .first)
   pub second : LineReady (l .second)
   pub third : LineReady (l .third)
-
--- the ready line of an equation, and those of three
-pub record Lined (w : Equation) (from : Readers) (to : Writer) (l : ReadyLine) : Type 0 where
-  pub is : l .line ≡ lineOf w from to
-  pub ready : LineReady l
-
-pub record Prepared (e : Equations) (from : Readers) (light colour : Writer) (l : Lines) : Type 0 where
-  pub first : Lined (e .first) from light (l .first)
-  pub second : Lined (e .second) from colour (l .second)
-  pub third : Lined (e .third) from colour (l .third)

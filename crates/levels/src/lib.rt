@@ -4,10 +4,9 @@ pub mod by_lines;
 pub mod equations;
 pub mod lines;
 
+ghost use mathlib.Core.Path.{_≡_};
 ghost use Rattle.levels.specs.Conversion.{EquationsFit, LevelDepths};
-ghost use Rattle.levels.specs.Lines.{readersOfRgb, readersOfYcc, rgbWriter, lumaWriter, chromaWriter};
-ghost use Rattle.levels.specs.Conversion.{rgbOf, lumaOf, chromaOf};
-ghost use Rattle.levels.specs.Room.{Prepared};
+ghost use Rattle.levels.specs.Lines.{forwardLines, reverseLines};
 use equations::Equations;
 use lines::Lines;
 use sample::Depths;
@@ -23,7 +22,7 @@ pub struct LevelSetting {
 pub fn forward_lines(e: Equations, s: LevelSetting) -> Lines
     requires { ⌜ EquationsFit e ⌝ }
     requires { ⌜ LevelDepths s ⌝ }
-    ensures { λ r. ⌜ Prepared e (readersOfRgb (rgbOf s)) (lumaWriter s) (chromaWriter s) r ⌝ }
+    ensures { λ r. ⌜ r ≡ forwardLines e s ⌝ }
 {
     let d = s.depths;
     let rgb_full = s.rgb_full;
@@ -46,7 +45,7 @@ pub fn forward_lines(e: Equations, s: LevelSetting) -> Lines
 pub fn reverse_lines(e: Equations, s: LevelSetting) -> Lines
     requires { ⌜ EquationsFit e ⌝ }
     requires { ⌜ LevelDepths s ⌝ }
-    ensures { λ r. ⌜ Prepared e (readersOfYcc (lumaOf s) (chromaOf s)) (rgbWriter s) (rgbWriter s) r ⌝ }
+    ensures { λ r. ⌜ r ≡ reverseLines e s ⌝ }
 {
     let d = s.depths;
     let rgb_full = s.rgb_full;

@@ -4,8 +4,8 @@ use crate::equations::Equations;
 use rounding::quotient::Divisor;
 use scale::Scale;
 ghost use mathlib.Core.Path.{_≡_};
-ghost use Rattle.levels.specs.Lines.{writerOf, readersOfRgb, readersOfYcc, spread, lineOf};
-ghost use Rattle.levels.specs.Room.{ScaleFits, SpreadFits, LineFits, Lined, Prepared};
+ghost use Rattle.levels.specs.Lines.{writerOf, readersOfRgb, readersOfYcc, spread, lineOf, readyLine, linesOf};
+ghost use Rattle.levels.specs.Room.{ScaleFits, SpreadFits, LineFits};
 
 // One prepared sample: the equation's sum over the samples themselves, and up - down, over its denominator. That is rounded, mid is added,
 // and the result is brought into 0..top.
@@ -184,7 +184,7 @@ fn line_of(w: Equation, from: Readers, to: Writer) -> Line
 // A line, with what stands for its divisor worked out once for many pixels.
 fn ready_line(w: Equation, from: Readers, to: Writer) -> ReadyLine
     requires { ⌜ LineFits w from to ⌝ }
-    ensures { λ r. ⌜ Lined w from to r ⌝ }
+    ensures { λ r. ⌜ r ≡ readyLine w from to ⌝ }
 {
     let line = line_of(w, from, to);
     let equation = line.equation;
@@ -198,7 +198,7 @@ pub(crate) fn lines_of(e: Equations, from: Readers, light: Writer, colour: Write
     requires { ⌜ LineFits (e .first) from light ⌝ }
     requires { ⌜ LineFits (e .second) from colour ⌝ }
     requires { ⌜ LineFits (e .third) from colour ⌝ }
-    ensures { λ r. ⌜ Prepared e from light colour r ⌝ }
+    ensures { λ r. ⌜ r ≡ linesOf e from light colour ⌝ }
 {
     let first = ready_line(e.first, from, light);
     let second = ready_line(e.second, from, colour);

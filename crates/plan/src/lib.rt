@@ -1,12 +1,8 @@
 // What a served setting does, decided once: one value with all that a loop over pixels needs.
-ghost use Prim.Native.Nat.{_≤_};
-ghost use Rattle.sample.specs.Depth.{ThreeDepths};
-ghost use Rattle.ycgco.specs.YCgCo.{LossyDepths, LosslessDepths};
+ghost use mathlib.Core.Path.{_≡_};
 ghost use Rattle.levels.specs.Conversion.{MatrixFits, LevelDepths};
-ghost use Rattle.setting.specs.Call.{inputOf};
 ghost use Rattle.setting.specs.Ready.{Ready};
-ghost use Rattle.plan.specs.Conversion.{changePlaces, lossy, lossless, ycgcoBy, levelsBy, convert};
-ghost use Rattle.plan.specs.Plan.{Plans};
+ghost use Rattle.plan.specs.Plan.{placesPlan, lossyPlan, losslessPlan, ycgcoPlan, levelsPlan, planOf};
 use levels::LevelSetting;
 use levels::equations::LevelMatrix;
 use levels::lines::Lines;
@@ -27,8 +23,8 @@ pub enum Plan {
     Lines(Lines),
 }
 
-fn plan_places(way: Way, d: Depths) -> Plan
-    ensures { λ r. ⌜ Plans (changePlaces way) (inputOf way) d r ⌝ }
+fn plan_places(way: Way) -> Plan
+    ensures { λ r. ⌜ r ≡ placesPlan way ⌝ }
 {
     match way {
         Way::Forward => Plan::PlacesForward,
@@ -37,8 +33,7 @@ fn plan_places(way: Way, d: Depths) -> Plan
 }
 
 fn plan_lossy(way: Way, d: Depths) -> Plan
-    requires { ⌜ LossyDepths d ⌝ }
-    ensures { λ r. ⌜ Plans (lossy way d) (inputOf way) d r ⌝ }
+    ensures { λ r. ⌜ r ≡ lossyPlan way d ⌝ }
 {
     match way {
         Way::Forward => Plan::LossyForward(d),
@@ -47,8 +42,7 @@ fn plan_lossy(way: Way, d: Depths) -> Plan
 }
 
 fn plan_lossless(way: Way, d: Depths) -> Plan
-    requires { ⌜ LosslessDepths d ⌝ }
-    ensures { λ r. ⌜ Plans (lossless way d) (inputOf way) d r ⌝ }
+    ensures { λ r. ⌜ r ≡ losslessPlan way d ⌝ }
 {
     match way {
         Way::Forward => Plan::LosslessForward(d),
@@ -58,9 +52,7 @@ fn plan_lossless(way: Way, d: Depths) -> Plan
 
 // Lossless where chroma is deeper than RGB.
 fn plan_ycgco(way: Way, d: Depths) -> Plan
-    requires { ⌜ ThreeDepths d ⌝ }
-    requires { ⌜ (d .rgb .0 ≤ d .luma .0) × (d .luma .0 ≤ d .chroma .0) ⌝ }
-    ensures { λ r. ⌜ Plans (ycgcoBy way d) (inputOf way) d r ⌝ }
+    ensures { λ r. ⌜ r ≡ ycgcoPlan way d ⌝ }
 {
     let rgb = d.rgb.0;
     let chroma = d.chroma.0;
@@ -73,7 +65,7 @@ fn plan_ycgco(way: Way, d: Depths) -> Plan
 fn plan_levels(way: Way, m: LevelMatrix, s: LevelSetting) -> Plan
     requires { ⌜ MatrixFits m ⌝ }
     requires { ⌜ LevelDepths s ⌝ }
-    ensures { λ r. ⌜ Plans (levelsBy way m s) (inputOf way) (s .depths) r ⌝ }
+    ensures { λ r. ⌜ r ≡ levelsPlan way m s ⌝ }
 {
     match way {
         Way::Forward => Plan::Lines(levels::forward_lines(m.forward, s)),
@@ -84,14 +76,14 @@ fn plan_levels(way: Way, m: LevelMatrix, s: LevelSetting) -> Plan
 // The plan of a conversion.
 pub fn plan_of(way: Way, s: Served) -> Plan
     requires { ⌜ Ready s ⌝ }
-    ensures { λ r. ⌜ Plans (convert way s) (inputOf way) (s .depths) r ⌝ }
+    ensures { λ r. ⌜ r ≡ planOf way s ⌝ }
 {
     let formulas = s.formulas;
     let depths = s.depths;
     let rgb_full = s.rgb_full;
     let ycc_full = s.ycc_full;
     match formulas {
-        Formulas::ChangePlaces => plan_places(way, depths),
+        Formulas::ChangePlaces => plan_places(way),
         Formulas::YCgCo => plan_ycgco(way, depths),
         Formulas::Levels(matrix) => plan_levels(
             way,

@@ -1,10 +1,14 @@
 -- Why a quotient can be found by a multiplication: the product never leads above it, and what is left over makes up for the rest.
 use mathlib.Core.Path.{_≡_, sym, ap, _∙_}
+use mathlib.Core.Bool.{Bool, true, false, cond}
 use Prim.Native.Nat.{ℕ, _+_, _*_, _-_, _/_, _^_, _≤_, _<_, min}
 use native.Mathlib.Nat.{add-mul, mul-assoc, mul-left-comm, mul-right-comm, mul-le-mul-left, mul-le-mul-right, lt-of-mul-lt-mul-right, le-mul-of-pos-right, div-mul-le-self, le-div-iff-mul-le, div-lt-iff-lt-mul, lt-div-mul-add}
 use native.Mathlib.Omega.{arith}
 use lib.Arith.{digits-div}
+use lib.Dec.{ltb}
+use lib.Pow.{pow-pos}
 use Rattle.sample.specs.Depth.{pastSamples}
+use Rattle.rounding.specs.Quotient.{shiftOf, divisorOf, Divides}
 
 -- f stands for c over d, in steps of p; u is n in steps of p. So u f is at most c times n over d.
 scaled : (c n u p f d : ℕ) → f * d ≤ c * p → u * p ≤ n → u * f * d ≤ c * n
@@ -47,8 +51,8 @@ one-more n d q r e l = let more = add-mul q 1 d in omega arith
 pub one-more-low : (n d q r : ℕ) → 0 < d → q * d + r ≡ n → d ≤ r → q + 1 ≤ n
 one-more-low n d q r s e l = let low = le-mul-of-pos-right q s in omega arith
 
--- what divisor_of prepares: c over d in steps of p, rounded up before and down after
-pub stands-low : (c d p : ℕ) → 0 < d → 0 < p → c / ((d - 1) / p + 1) * d ≤ c * p
+-- what stands for a divisor: c over d in steps of p, rounded up before and down after
+stands-low : (c d p : ℕ) → 0 < d → 0 < p → c / ((d - 1) / p + 1) * d ≤ c * p
 stands-low c d p s t =
     let top : d ≤ ((d - 1) / p + 1) * p = let l = lt-div-mul-add {a = d - 1} t in let more = add-mul ((d - 1) / p) 1 p in omega arith in
     let f = c / ((d - 1) / p + 1) in
@@ -56,3 +60,16 @@ stands-low c d p s t =
     let two = mul-le-mul-right p (div-mul-le-self c ((d - 1) / p + 1)) in
     let order = mul-assoc f ((d - 1) / p + 1) p in
     omega arith
+
+chosen-most : (b : Bool) {x y n : ℕ} → x ≤ n → y ≤ n → cond b x y ≤ n
+chosen-most true h k = h
+chosen-most false h k = k
+
+-- so it may be divided by
+pub shift-most : (over : ℕ) → shiftOf over ≤ 30
+unfolding shiftOf
+shift-most over = chosen-most (ltb over (2 ^ 30)) (omega arith) (chosen-most (ltb over (2 ^ 40)) (omega arith) (chosen-most (ltb over (2 ^ 50)) (omega arith) (omega arith)))
+
+pub divides : (over : ℕ) → 0 < over → Divides (divisorOf over)
+divides over h =
+    record { some = h; shift-in = shift-most over; below = stands-low (2 ^ 48) over (2 ^ shiftOf over) h (pow-pos (shiftOf over)) }

@@ -1,9 +1,9 @@
 // Quotients by a number that is known long before what it divides, with no division: a multiplication by a number that stands
 // for it and a shift come close from below, and what is left over says how far below.
 ghost use mathlib.Core.Path.{_≡_};
-ghost use Prim.Native.Nat.{_/_, _≤_, _<_, min};
+ghost use Prim.Native.Nat.{_/_, _<_, min};
 ghost use Rattle.sample.specs.Depth.{pastSamples};
-ghost use Rattle.rounding.specs.Quotient.{Divides};
+ghost use Rattle.rounding.specs.Quotient.{shiftOf, divisorOf, Divides};
 
 // A divisor, and 2^48 over its leading bits: `shift` says how many others there are.
 pub struct Divisor {
@@ -14,7 +14,7 @@ pub struct Divisor {
 
 // How many bits to leave out, so that 20 to 30 stay.
 fn shift_of(over: u64) -> u64
-    ensures { λ r. ⌜ r ≤ 30 ⌝ }
+    ensures { λ r. ⌜ r ≡ shiftOf over ⌝ }
 {
     if over < 1073741824 {
         return 0;
@@ -31,8 +31,7 @@ fn shift_of(over: u64) -> u64
 // What stands for a divisor.
 pub fn divisor_of(over: u64) -> Divisor
     requires { ⌜ 0 < over ⌝ }
-    ensures { λ r. ⌜ r .over ≡ over ⌝ }
-    ensures { λ r. ⌜ Divides r ⌝ }
+    ensures { λ r. ⌜ r ≡ divisorOf over ⌝ }
 {
     let shift = shift_of(over);
     let leading = ((over - 1) >> shift) + 1;

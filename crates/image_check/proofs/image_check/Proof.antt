@@ -10,6 +10,7 @@ use Rattle.setting.specs.declared.admission.Served.{Served as ServedSetting}
 use Rattle.planes.specs.Picture.{Picture, picture, layoutOf, pixelOf, EveryPixel}
 use Rattle.planes.specs.Sizes.{Fits}
 use Rattle.planes.proofs.Searches.{first-place-same}
+use Rattle.plan.proofs.PlanLaws.{plans-as}
 use Rattle.plan.proofs.SourceLaws.{takes-back, takes-forth, comes-back-as}
 use Rattle.admit.specs.Rules.{pictureAdmission}
 use Rattle.admit.proofs.Accepted.{accepted-of, is-ready, all-fit, pixels-inside}
@@ -44,8 +45,8 @@ known c =
 first-sourceless-requires : tie.Need-first-sourceless-requires
 first-sourceless-requires c κs =
     let h = known (c .before .before) in
-    let k = c .before .plan-of .ensures in
-    let l = c .plan-of2 .ensures in
+    let k = plans-as _ _ (c .before .plan-of .ensures) (h .ready) in
+    let l = plans-as _ _ (c .plan-of2 .ensures) (h .ready) in
     ((k .roomy, l .roomy), (h .fits, (λ j i p q. takes-back _ k l _ (h .inside j i p q), λ j i p q. takes-forth _ k l _ (h .ready) (h .inside j i p q))))
 
 -- what was found, as the answer
@@ -53,7 +54,8 @@ answered : (c : tie.After-first-sourceless) → answerFound (c .first-sourceless
 unfolding imageAnswer
 answered c =
     let s = c .before .before .before .before .before .before .before .before .before .before in
-    let same = comes-back-as _ (c .before .before .plan-of .ensures) (c .before .plan-of2 .ensures) in
+    let r = known (c .before .before .before) .ready in
+    let same = comes-back-as _ (plans-as _ _ (c .before .before .plan-of .ensures) r) (plans-as _ _ (c .before .plan-of2 .ensures) r) in
     ap answerFound (c .first-sourceless .ensures ∙ first-place-same _ _ 0 (s .args .width) (s .args .height) (λ j i p q. ap not (same (pixelOf (lent s) j i))))
     ∙ ap (λ v. imageBy v (lent s)) (sym (admitted-as (c .before .before .before .before .before .before) ∙ c .before .before .before .before .served .given .1))
 

@@ -2,8 +2,8 @@
 use mathlib.Core.Path.{_≡_, ap, _∙_}
 use borrow.Author.Needs.{needs}
 use Rattle.levels.specs.Conversion.{rgbOf}
-use Rattle.levels.specs.Lines.{readersOfRgb, writerOf, lumaWriter, chromaWriter}
-use Rattle.levels.proofs.Fitting.{fits-as, prepared-as, into-luma, into-chroma}
+use Rattle.levels.specs.Lines.{readersOfRgb, writerOf, lumaWriter, chromaWriter, linesOf, forwardLines}
+use Rattle.levels.proofs.Fitting.{fits-as, into-luma, into-chroma}
 use Rattle.levels.proofs.forward_lines.Statement.{statement}
 use Rattle.levels.proofs.forward_lines.Tie as tie
 
@@ -37,7 +37,10 @@ lines-of-requires c κs =
     )
 
 returns : tie.Need-returns
-returns c = let e = c .before in prepared-as (from-is e) (light-is e) (colour-is e) (c .lines-of .ensures)
+unfolding forwardLines
+returns c =
+    let e = c .before in
+    c .lines-of .ensures ∙ (λ i. linesOf (start e .args .e) (from-is e i) (light-is e i) (colour-is e i))
 
 pub forward-lines-spec : {M : Type 1} → statement M
 forward-lines-spec = tie.close (tie.spec (λ c κs. search needs) (λ c κs. search needs) (λ c κs. search needs) (λ c κs. search needs) (λ c κs. search needs) (λ c κs. search needs) (λ c κs. search needs) (λ c κs. search needs) lines-of-requires returns)

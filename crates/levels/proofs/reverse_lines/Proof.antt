@@ -2,8 +2,8 @@
 use mathlib.Core.Path.{_≡_, _∙_}
 use borrow.Author.Needs.{needs}
 use Rattle.levels.specs.Conversion.{lumaOf, chromaOf}
-use Rattle.levels.specs.Lines.{readersOfYcc, writerOf, rgbWriter}
-use Rattle.levels.proofs.Fitting.{fits-as, prepared-as, luma-fits, chroma-fits, into-rgb}
+use Rattle.levels.specs.Lines.{readersOfYcc, writerOf, rgbWriter, linesOf, reverseLines}
+use Rattle.levels.proofs.Fitting.{fits-as, luma-fits, chroma-fits, into-rgb}
 use Rattle.levels.proofs.reverse_lines.Statement.{statement}
 use Rattle.levels.proofs.reverse_lines.Tie as tie
 
@@ -39,7 +39,10 @@ lines-of-requires c κs =
     )
 
 returns : tie.Need-returns
-returns c = let e = c .before in prepared-as (from-is e) (to-is e) (to-is e) (c .lines-of .ensures)
+unfolding reverseLines
+returns c =
+    let e = c .before in
+    c .lines-of .ensures ∙ (λ i. linesOf (start e .args .e) (from-is e i) (to-is e i) (to-is e i))
 
 pub reverse-lines-spec : {M : Type 1} → statement M
 reverse-lines-spec = tie.close (tie.spec (λ c κs. search needs) (λ c κs. search needs) readers-of-ycc-requires (λ c κs. search needs) (λ c κs. search needs) (λ c κs. search needs) lines-of-requires returns)

@@ -3,6 +3,7 @@ use mathlib.Core.Path.{_≡_, sym, ap, _∙_}
 use borrow.Author.Needs.{needs}
 use Rattle.setting.specs.declared.Call.the-variants.{Convert}
 use Rattle.setting.specs.Call.{reads}
+use Rattle.plan.proofs.PlanLaws.{plans-as}
 use Rattle.admit.proofs.Accepted.{PixelAdmitted, pixel-admitted}
 use Rattle.corkplover.specs.Answers.{convertedBy, pixelAnswer}
 use Rattle.corkplover.specs.declared.pixels.PixelAnswer.the-variants as answer
@@ -13,7 +14,10 @@ known : (c : tie.After-served) → let a = c .before .before .before .args in Pi
 known c = let a = c .before .before .before .args in pixel-admitted (Convert (a .way)) (a .s) (a .p) _ (sym (c .before .before .admit-pixel .ensures) ∙ c .served .given .1)
 
 pixel-requires : tie.Need-pixel-requires
-pixel-requires c κs = let k = c .plan-of .ensures in (k .roomy, k .takes _ (known (c .before .before) .inside))
+pixel-requires c κs =
+    let h = known (c .before .before) in
+    let k = plans-as _ _ (c .plan-of .ensures) (h .is-ready) in
+    (k .roomy, k .takes _ (h .inside))
 
 returns : tie.Need-returns
 unfolding pixelAnswer
@@ -23,7 +27,7 @@ returns-2 : tie.Need-returns-2
 unfolding pixelAnswer
 returns-2 c =
     let a = c .before .before .before .before .before .before .args in
-    ap answer.Converted (c .pixel .ensures ∙ c .before .plan-of .ensures .is (a .p))
+    ap answer.Converted (c .pixel .ensures ∙ plans-as _ _ (c .before .plan-of .ensures) (known (c .before .before .before) .is-ready) .is (a .p))
     ∙ ap (convertedBy (a .way) (a .p)) (sym (c .before .before .before .served .given .1) ∙ c .before .before .before .before .before .admit-pixel .ensures)
 
 pub convert-pixel-spec : {M : Type 1} → statement M

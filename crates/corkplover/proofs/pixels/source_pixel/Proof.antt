@@ -5,6 +5,7 @@ use borrow.Author.Needs.{needs}
 use Rattle.sample.specs.declared.Side.the-variants.{Ycc}
 use Rattle.setting.specs.declared.Call.the-variants.{ImageCheck}
 use Rattle.plan.specs.Source.{hasSource}
+use Rattle.plan.proofs.PlanLaws.{plans-as}
 use Rattle.plan.proofs.SourceLaws.{takes-back, takes-forth, comes-back-as}
 use Rattle.admit.proofs.Accepted.{PixelAdmitted, pixel-admitted}
 use Rattle.corkplover.specs.Answers.{sourceAnswer}
@@ -18,16 +19,17 @@ known c = let a = c .before .before .before .args in pixel-admitted ImageCheck (
 comes-back-requires : tie.Need-comes-back-requires
 comes-back-requires c κs =
     let h = known (c .before .before .before) in
-    let k = c .before .plan-of .ensures in
-    let l = c .plan-of2 .ensures in
+    let k = plans-as _ _ (c .before .plan-of .ensures) (h .is-ready) in
+    let l = plans-as _ _ (c .plan-of2 .ensures) (h .is-ready) in
     (k .roomy, (l .roomy, (takes-back _ k l _ (h .inside), takes-forth _ k l _ (h .is-ready) (h .inside))))
 
 -- the answer by the test
 tested : (c : tie.After-comes-back) (t : Bool) → c .comes-back .result ≡ t → cond t answer.Yes answer.NoSource ≡ sourceAnswer (c .before .before .before .before .before .before .before .args .s) (c .before .before .before .before .before .before .before .args .p)
 unfolding sourceAnswer
 tested c t e =
+    let r = known (c .before .before .before .before) .is-ready in
     rw (← c .before .before .before .before .before .before .admit-pixel .ensures, c .before .before .before .before .served .given .1)
-    (ap (λ x. cond x answer.Yes answer.NoSource) (sym e ∙ c .comes-back .ensures ∙ comes-back-as _ (c .before .before .plan-of .ensures) (c .before .plan-of2 .ensures) _))
+    (ap (λ x. cond x answer.Yes answer.NoSource) (sym e ∙ c .comes-back .ensures ∙ comes-back-as _ (plans-as _ _ (c .before .before .plan-of .ensures) r) (plans-as _ _ (c .before .plan-of2 .ensures) r) _))
 
 returns-2 : tie.Need-returns-2
 unfolding sourceAnswer

@@ -17,9 +17,7 @@ divisor-of-requires : tie.Need-divisor-of-requires
 divisor-of-requires c κs = let r = roomy (c .before) in omega arith
 
 returns : tie.Need-returns
-returns c =
-    let d = c .divisor-of .ensures in
-    record { is = c .before .before .line-of .ensures; ready = record { room = roomy (c .before .before); divides = d .1; twice = d .0 } }
+returns c = rw (c .divisor-of .ensures) (rw (c .before .before .line-of .ensures))
 
 pub ready-line-spec : {M : Type 1} → statement M
 ready-line-spec = tie.close (tie.spec (λ c κs. search needs) mul-divisor-of divisor-of-requires returns)
