@@ -1,14 +1,16 @@
 -- Laws of searches: what it means that the first of some places was found, or that nothing was.
-use mathlib.Core.Path.{_≡_, refl, sym, _∙_, subst}
+use mathlib.Core.Path.{_≡_, refl, sym, ap, _∙_, subst}
 use mathlib.Core.Bool.{Bool, true, false, true≢false}
+use mathlib.Core.List.{List}
 use mathlib.Core.Logic.{_↔_, ⊎-elim, inl, inr}
-use Prim.Native.Nat.{ℕ, zero, suc, _<_}
+use Prim.Native.Nat.{ℕ, zero, suc, _+_, _≤_, _<_, max}
 use native.Mathlib.Nat.{eq-or-lt-of-le, le-of-suc-le-suc, not-suc-le-zero}
 use native.Mathlib.Omega.{arith}
+use lib.ListN.{getD}
 use Rattle.sample.proofs.Choices.{chose-first, chose-second}
 use Rattle.refusal.specs.Rules.{at}
 use Rattle.refusal.specs.declared.Place.{Place}
-use Rattle.planes.specs.First.{orFound, firstOf, placeIf, placeInRow, firstPlace, IsFirstPlace}
+use Rattle.planes.specs.First.{orFound, firstOf, placeIf, placeInRow, firstPlace, IsFirstPlace, largestOf}
 use Rattle.planes.specs.declared.search.Found.{Found}
 use Rattle.planes.specs.declared.search.Found.the-variants.{At, Nothing}
 
@@ -154,3 +156,18 @@ pub first-place-same : (f g : ℕ → ℕ → Bool) (plane width height : ℕ) �
     → firstPlace f plane width height ≡ firstPlace g plane width height
 unfolding firstPlace placeInRow placeIf
 first-place-same f g plane width height e = first-same _ _ height (λ j a. first-same _ _ width (λ i b. rw (e j i a b)))
+
+-- ---- the largest element
+
+pub largest-more : (n : ℕ) (s : List ℕ) → largestOf (n + 1) s ≡ max (largestOf n s) (getD s n 0)
+unfolding largestOf
+largest-more n s = ap (λ k. largestOf k s) (let e : n + 1 ≡ suc n = omega arith in e)
+
+pub none-above : (s : List ℕ) (n k : ℕ) → k < n → getD s k 0 ≤ largestOf n s
+unfolding largestOf
+none-above s zero k h = absurd (omega arith)
+none-above s (suc n) k h =
+    ⊎-elim
+    (λ e. subst (λ j. getD s j 0 ≤ max (largestOf n s) (getD s n 0)) (let q : n ≡ k = omega arith in q) (omega arith))
+    (λ l. omega (arith, none-above s n k (omega arith)))
+    (eq-or-lt-of-le h)

@@ -4,9 +4,9 @@ use mathlib.Core.Path.{_≡_}
 use mathlib.Core.Bool.{Bool, true, false, cond}
 use mathlib.Core.List.{List}
 use mathlib.Core.Logic.{_⊎_}
-use Prim.Native.Nat.{ℕ, zero, suc, _≤_, _<_}
+use Prim.Native.Nat.{ℕ, zero, suc, _≤_, _<_, max}
 use lib.Dec.{ltb}
-use lib.ListN.{length, getD}
+use lib.ListN.{getD}
 use Rattle.refusal.specs.Rules.{Rule, rule, at, badAt}
 use Rattle.refusal.specs.declared.Place.{Place}
 use Rattle.sample.specs.declared.Pixel.{Pixel}
@@ -58,9 +58,10 @@ abbrev pub badRule : Found → Rule
 badRule (At place) = record { refusal = badAt place; applies = true }
 badRule Nothing = rule 10 false
 
--- no element of s is above m
-abbrev pub NoneAbove : List ℕ → ℕ → Type 0
-NoneAbove s m = (k : ℕ) → k < length s → getD s k 0 ≤ m
+-- the largest of the first n elements, or 0 of none
+unfoldable pub largestOf : ℕ → List ℕ → ℕ
+largestOf zero s = 0
+largestOf (suc n) s = max (largestOf n s) (getD s n 0)
 
 -- every sample inside the picture is within its depth
 abbrev pub AllFine : List ℕ → ℕ → ℕ → ℕ → ℕ → Type 0

@@ -4,7 +4,7 @@ ghost use Prim.Native.Nat.{_≤_};
 ghost use lib.ListN.{length};
 ghost use Rattle.planes.specs.Sizes.{Sized, Long, needed};
 ghost use Rattle.planes.specs.Picture.{picture};
-ghost use Rattle.planes.specs.First.{NoneAbove, firstBad, badSample};
+ghost use Rattle.planes.specs.First.{largestOf, firstBad, badSample};
 use crate::size::row_start;
 use refusal::Place;
 use sample::Pixel;
@@ -15,9 +15,9 @@ pub enum Found {
     Nothing,
 }
 
-// A number that no element is above: the largest element, or 0 of none.
+// The largest element, or 0 of none.
 fn largest(s: &[u16]) -> u16
-    ensures { λ r. ⌜ NoneAbove (now (s .entry)) r ⌝ }
+    ensures { λ r. ⌜ r ≡ largestOf (length (now (s .entry))) (now (s .entry)) ⌝ }
 {
     let mut m = 0;
     for i in 0..s.len() {

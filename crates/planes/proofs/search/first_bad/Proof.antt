@@ -7,17 +7,20 @@ use borrow.Author.Needs.{needs}
 use borrow.Author.Tests.{lt-ltb, le-ltb}
 use lib.ListN.{length, take, drop}
 use Rattle.planes.specs.Plane.{sampleAt}
-use Rattle.planes.specs.First.{isAbove, NoneAbove}
+use Rattle.planes.specs.First.{isAbove, largestOf}
+use Rattle.planes.proofs.Searches.{none-above}
 use Rattle.planes.proofs.Tables.{part-width, part-sample}
 use Rattle.planes.proofs.Walks.{NoneBefore, Walked, walked-none, walked-column, walked-row, walked-over, walked-all, walked-here}
 use Rattle.planes.proofs.search.first_bad.Statement.{statement}
 use Rattle.planes.proofs.search.first_bad.Tie as tie
 
--- row j starts at a, no sample of it is above m, and m is not above top
+-- row j starts at a, and its largest sample m is not above top
 row-fine : (p : List ℕ) (width stride top j a m : ℕ) → a ≡ j * stride → a + width ≤ length p
-    → NoneAbove (take (a + width - a) (drop a p)) m → m ≤ top → NoneBefore (isAbove p stride top) j width
+    → let row = take (a + width - a) (drop a p) in m ≡ largestOf (length row) row → m ≤ top → NoneBefore (isAbove p stride top) j width
 row-fine p width stride top j a m starts h e l i k =
-    le-ltb top (sampleAt p stride j i) (omega (arith, e i (omega (arith, part-width p a width h)), part-sample p stride j a width i starts k))
+    let row = take (a + width - a) (drop a p) in
+    le-ltb top (sampleAt p stride j i)
+    (omega (arith, none-above row (length row) i (omega (arith, part-width p a width h)), part-sample p stride j a width i starts k))
 
 abbrev Inv-loop : tie.InvT-loop
 Inv-loop p plane width height stride top found₀ j a e i₀ found i = Walked (isAbove p stride top) width height found j i

@@ -1,39 +1,37 @@
--- `planes::search::largest` meets its contract: no element passed so far is above m, whichever way the branch went.
-use mathlib.Core.Path.{_≡_, refl}
+-- `planes::search::largest` meets its contract: m is the largest of the elements passed so far, whichever way the branch went.
+use mathlib.Core.Path.{_≡_, refl, ap, _∙_}
 use mathlib.Core.Logic.{⊎-elim}
-use Prim.Native.Nat.{ℕ, _≤_, _<_, _-_}
+use Prim.Native.Nat.{_≤_, _-_}
 use native.Mathlib.Omega.{arith}
-use borrow.Author.Count.{below-more}
 use borrow.Author.Needs.{needs}
-use lib.ListN.{length, getD}
+use lib.ListN.{length}
+use Rattle.planes.specs.First.{largestOf}
+use Rattle.planes.proofs.Searches.{largest-more}
 use Rattle.planes.proofs.search.largest.Statement.{statement}
 use Rattle.planes.proofs.search.largest.Tie as tie
 
 abbrev Inv-loop : tie.InvT-loop
-Inv-loop s m₀ i₀ i-end m i = (i ≤ i-end) × ((i-end ≡ length s) × ((k : ℕ) → k < i → getD s k 0 ≤ m))
+Inv-loop s m₀ i₀ i-end m i = (i ≤ i-end) × ((i-end ≡ length s) × (m ≡ largestOf i s))
 
 abbrev μ-loop : tie.MeasureT-loop
 μ-loop s m₀ i₀ i-end m i = i-end - i
 
+loop-holds : tie.Need-loop-holds Inv-loop μ-loop
+unfolding largestOf
+loop-holds c = (omega arith, (refl, refl))
+
 loop-again : tie.Need-loop-again Inv-loop μ-loop
 loop-again c =
     let l = c .before .before .before .loop in
-    let below = l .inv .1 .1 in (
-      omega arith,
-      (
-        refl,
-        ⊎-elim
-            (λ w. below-more _ (l .i) (λ k h. omega (arith, below k h)) (omega arith))
-            (λ w. below-more _ (l .i) (λ k h. omega (arith, below k h)) (omega arith))
-            (c .if1 .came),
-      ),
-    )
+    let more = largest-more (l .i) (c .before .before .before .before .args .s .now) in (omega arith, (refl, ⊎-elim (λ w. omega arith) (λ w. omega arith) (c .if1 .came)))
 
 returns : tie.Need-returns Inv-loop μ-loop
-returns c = λ k h. c .before .loop .inv .1 .1 k (omega arith)
+returns c =
+    let l = c .before .loop in
+    l .inv .1 .1 ∙ ap (λ n. largestOf n (c .before .before .args .s .now)) (omega arith)
 
 pub largest-spec : {M : Type 1} → statement M
 largest-spec =
     tie.close
-    (tie.spec Inv-loop μ-loop (λ c. search needs) (λ c. search needs) (λ c. search needs) (λ c. search needs)
+    (tie.spec Inv-loop μ-loop loop-holds (λ c. search needs) (λ c. search needs) (λ c. search needs)
     (λ c. search needs) loop-again returns)
