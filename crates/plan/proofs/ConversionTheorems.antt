@@ -61,10 +61,10 @@ module _ (m : LevelMatrix) (s : LevelSetting) (p : Pixel) where
 
 -- YCgCo is lossless where chroma is deeper than RGB, and else lossy
 module _ (w : Way) (d : Depths) (p : Pixel) where
-  pub as-lossless : d .rgb .0 < d .chroma .0 → ycgcoBy w d p ≡ lossless w d p
+  as-lossless : d .rgb .0 < d .chroma .0 → ycgcoBy w d p ≡ lossless w d p
   as-lossless l = rw (lt-ltb _ _ l)
 
-  pub as-lossy : d .chroma .0 ≤ d .rgb .0 → ycgcoBy w d p ≡ lossy w d p
+  as-lossy : d .chroma .0 ≤ d .rgb .0 → ycgcoBy w d p ≡ lossy w d p
   as-lossy l = rw (le-ltb _ _ l)
 
 module _ (d : Depths) (h : ThreeDepths d) (k : (d .rgb .0 ≤ d .luma .0) × (d .luma .0 ≤ d .chroma .0)) where

@@ -61,11 +61,11 @@ stands-low c d p s t =
     let order = mul-assoc f ((d - 1) / p + 1) p in
     omega arith
 
+-- its shift is a small number, so it may be divided by
 chosen-most : (b : Bool) {x y n : ℕ} → x ≤ n → y ≤ n → cond b x y ≤ n
 chosen-most true h k = h
 chosen-most false h k = k
 
--- so it may be divided by
 pub shift-most : (over : ℕ) → shiftOf over ≤ 30
 unfolding shiftOf
 shift-most over = chosen-most (ltb over (2 ^ 30)) (omega arith) (chosen-most (ltb over (2 ^ 40)) (omega arith) (chosen-most (ltb over (2 ^ 50)) (omega arith) (omega arith)))

@@ -1,5 +1,5 @@
 -- The three operations on whole numbers that the formulas use: ">> 1", Round and Clip.
-use Prim.Native.Nat.{ℕ, suc, _+_, _*_, _/_, _^_, _-_, _≤_, _<_, min}
+use Prim.Native.Nat.{ℕ, suc, _+_, _*_, _/_, _^_, _≤_, _<_, min}
 use lib.IntN.{ℤ, pos, negsuc, negℤ}
 use Rattle.sample.specs.Depth.{mostDepth, M}
 

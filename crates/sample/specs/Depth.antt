@@ -1,5 +1,4 @@
 -- Depths: their two ends, and the upper end for a level matrix. No other definition has these three numbers.
-use mathlib.Core.Path.{_≡_}
 use mathlib.Core.Bool.{Bool, _&&_, cond}
 use Prim.Native.Nat.{ℕ, _-_, _^_, _≤_, _<_}
 use lib.Dec.{leb}

@@ -223,7 +223,7 @@ impl Depths {
     }
 }
 
-// 2^bits, for less bits than the deepest sample has.
+// 2^bits, for fewer bits than the deepest sample has.
 fn power(bits: u8) -> u16
     requires { ⌜ bits < mostDepth ⌝ }
     ensures { λ r. ⌜ r ≡ 2 ^ bits ⌝ }

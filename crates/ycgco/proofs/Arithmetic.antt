@@ -1,6 +1,6 @@
 -- Each sample as the code computes it is the whole number of the formula. H stands for the middle of the chroma plane.
 use mathlib.Core.Path.{_≡_}
-use Prim.Native.Nat.{ℕ, _+_, _-_, _*_, _/_, _≤_, _<_}
+use Prim.Native.Nat.{ℕ, _+_, _-_, _*_, _/_, _≤_}
 use native.Mathlib.Omega.{arith}
 use lib.IntN.{ℤ, pos, _+ℤ_, _-ℤ_, _*ℤ_}
 use Rattle.rounding.specs.Rounding.{half, round, clip, sample}

@@ -1,5 +1,5 @@
 -- `ycgco::lossy_reverse` meets its contract: each sample is a clipped difference.
-use mathlib.Core.Path.{ap, _∙_}
+use mathlib.Core.Path.{_∙_}
 use Rattle.sample.specs.Depth.{H}
 use Rattle.rounding.proofs.FromParts.{clip-same}
 use Rattle.ycgco.specs.YCgCo.{lossyReverse}

@@ -1,5 +1,5 @@
 -- `corkplover::pixels::convert_pixel` meets its contract: a call that was let in has all that its plan asks.
-use mathlib.Core.Path.{_≡_, sym, ap, _∙_}
+use mathlib.Core.Path.{sym, ap, _∙_}
 use borrow.Author.Needs.{needs}
 use Rattle.setting.specs.declared.Call.the-variants.{Convert}
 use Rattle.setting.specs.Call.{reads}

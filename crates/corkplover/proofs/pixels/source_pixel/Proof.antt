@@ -4,7 +4,6 @@ use mathlib.Core.Bool.{Bool, cond}
 use borrow.Author.Needs.{needs}
 use Rattle.sample.specs.declared.Side.the-variants.{Ycc}
 use Rattle.setting.specs.declared.Call.the-variants.{ImageCheck}
-use Rattle.plan.specs.Source.{hasSource}
 use Rattle.plan.proofs.PlanLaws.{plans-as}
 use Rattle.plan.proofs.SourceLaws.{takes-back, takes-forth, comes-back-as}
 use Rattle.admit.proofs.Accepted.{PixelAdmitted, pixel-admitted}

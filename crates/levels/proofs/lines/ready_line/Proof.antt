@@ -1,5 +1,5 @@
 -- `levels::lines::ready_line` meets its contract: a line that has room has a divisor that is some number and fits.
-use mathlib.Core.Path.{_≡_, sym, subst}
+use mathlib.Core.Path.{sym, subst}
 use native.Mathlib.Omega.{arith}
 use borrow.Author.Needs.{needs}
 use Rattle.levels.specs.Room.{Room}
