@@ -21,4 +21,5 @@ pub mod Printed
 pub mod Marked
 pub mod WrongBoxes
 pub mod WrongLevels
+pub mod WrongYCgCo
 pub mod WholeFrames

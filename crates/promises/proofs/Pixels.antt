@@ -109,10 +109,10 @@ pixel-checks s p =
 
 -- ---- the meter
 
-largest-small : (d : ℕ) → Depth d → M d ≤ 65536
+largest-small : (d : ℕ) → Depth d → M d ≤ M mostDepth
 largest-small d h = let p = powers d mostDepth (h .least) (h .most) in omega arith
 
-top-small : (k : SampleKind) (d : Depths) → Depth (d .luma .0) → Depth (d .chroma .0) → topOf k d ≤ 65536
+top-small : (k : SampleKind) (d : Depths) → Depth (d .luma .0) → Depth (d .chroma .0) → topOf k d ≤ M mostDepth
 top-small kind.Y d h g = largest-small (d .luma .0) h
 top-small kind.Cb d h g = largest-small (d .chroma .0) g
 top-small kind.Cr d h g = largest-small (d .chroma .0) g

@@ -7,7 +7,7 @@ use native.Mathlib.Omega.{arith}
 use lib.ListN.{getD}
 use Rattle.rounding.specs.Rounding.{half, clip, sample}
 use Rattle.sample.specs.Depth.{isDepth, areDepths, atMost}
-use Rattle.refusal.specs.Rules.{first, at, numbered}
+use Rattle.refusal.specs.Rules.{first, at, numbered, badAt}
 use Rattle.refusal.specs.declared.Place.{Place}
 use Rattle.refusal.specs.declared.Refusal.{Refusal}
 use Rattle.planes.specs.First.{orFound, firstOf, placeIf, placeInRow, firstPlace, badSample}
@@ -62,6 +62,12 @@ refused-frame = refl
 pub setting-before-sizes : frameAnswer Forward (with 17 8 8 9 true true) (picture 0 0 0 [] [] []) (layout 0 0 0 0) ≡ Refused (numbered 1)
 unfolding frameAnswer callAdmission first matrixOf
 setting-before-sizes = refl
+
+-- of four bad samples in two planes and two rows the one of the lowest plane, in it of the lowest row, is named
+pub first-bad-named : frameAnswer Forward setting (picture 2 2 2 (0 ∷ 256 ∷ 256 ∷ 0 ∷ []) (256 ∷ 0 ∷ 0 ∷ 256 ∷ []) (0 ∷ 0 ∷ 0 ∷ 0 ∷ [])) (layout 2 4 4 4)
+    ≡ Refused (badAt (at 0 0 1))
+unfolding frameAnswer callAdmission first matrixOf labelled among depthsServed agree areDepths isDepth atMost sizeOutside outside someLayout layoutShort anyShort badSample firstPlace placeInRow placeIf firstOf orFound
+first-bad-named = refl
 
 -- red above green, one pixel wide
 abbrev tall : Picture

@@ -85,6 +85,11 @@ pub reserved-first : meaningOfPixel (pixelAnswer Forward (unlabelled 3 99) (pixe
 unfolding pixelAnswer callAdmission first matrixOf
 reserved-first = refl
 
+-- reserved primaries come before a reserved transfer
+pub primaries-first : meaningOfPixel (pixelAnswer Forward (unlabelled 1 99) (pixel 256 0 0)) ≡ meaningRefusal (numbered 4)
+unfolding pixelAnswer callAdmission first matrixOf labelled among
+primaries-first = refl
+
 -- a source check that always says yes, or never: the red pixel has a source, the other would need a negative blue
 pub red-has-source : meaningOfSource (sourceAnswer (with 8 8 8 9 true true) (pixel 63 129 511)) .source ≡ true ∷ []
 unfolding sourceAnswer callAdmission first matrixOf labelled among depthsServed agree areDepths isDepth atMost badSample firstPlace placeInRow placeIf firstOf orFound hasSource convert losslessForward losslessReverse half clip sample

@@ -1,26 +1,32 @@
--- Each sample as the code computes it is the whole number of the formula. H stands for the middle of the chroma plane.
-use mathlib.Core.Path.{_≡_}
+-- Each sample as the code computes it is the whole number of the formula. H stands for the middle of the chroma plane. Forward, what the code
+-- has is a variable here that is equal to what is meant, so that a sum may be written either way round.
+use mathlib.Core.Path.{_≡_, _∙_}
 use Prim.Native.Nat.{ℕ, _+_, _-_, _*_, _/_, _≤_}
 use native.Mathlib.Omega.{arith}
 use lib.IntN.{ℤ, pos, _+ℤ_, _-ℤ_, _*ℤ_}
 use Rattle.rounding.specs.Rounding.{half, round, clip, sample}
 use Rattle.sample.specs.Depth.{mostDepth, M}
+use Rattle.sample.specs.declared.Pixel.{Pixel}
 use Rattle.rounding.proofs.Difference.{parts}
 use Rattle.rounding.proofs.FromParts.{same, is-sample, round-up, clip-within}
 
+-- a pixel by its samples
+pub made-of : {a b c x y z : ℕ} → a ≡ x → b ≡ y → c ≡ z → _≡_ {A = Pixel} (record { p0 = a; p1 = b; p2 = c }) (record { p0 = x; p1 = y; p2 = z })
+made-of e f g = λ i. record { p0 = e i; p1 = f i; p2 = g i }
+
 -- lossless forward
 module _ (H r g b : ℕ) where
-  pub lossless-cr : b ≤ r + H → r + H - b ≡ sample (pos r -ℤ pos b +ℤ pos H)
-  lossless-cr l = is-sample _ (search parts depth 20) (omega arith)
+  pub lossless-cr : {n : ℕ} → n ≡ r + H - b → b ≤ r + H → n ≡ sample (pos r -ℤ pos b +ℤ pos H)
+  lossless-cr e l = e ∙ is-sample _ (search parts depth 20) (omega arith)
 
   abbrev pub T : ℤ
   T = pos b +ℤ half (pos r -ℤ pos b +ℤ pos H -ℤ pos H)
 
-  pub lossless-cb : (r + b) / 2 ≤ g + H → g + H - (r + b) / 2 ≡ sample (pos g -ℤ T +ℤ pos H)
-  lossless-cb l = is-sample _ (search parts depth 20) (omega arith)
+  pub lossless-cb : {n : ℕ} → n ≡ g + H - (r + b) / 2 → (r + b) / 2 ≤ g + H → n ≡ sample (pos g -ℤ T +ℤ pos H)
+  lossless-cb e l = e ∙ is-sample _ (search parts depth 20) (omega arith)
 
-  pub lossless-y : (g + (r + b) / 2) / 2 ≡ sample (T +ℤ half (pos g -ℤ T +ℤ pos H -ℤ pos H))
-  lossless-y = is-sample _ (search parts depth 20) (omega arith)
+  pub lossless-y : {n : ℕ} → n ≡ (g + (r + b) / 2) / 2 → n ≡ sample (T +ℤ half (pos g -ℤ T +ℤ pos H -ℤ pos H))
+  lossless-y e = e ∙ is-sample _ (search parts depth 20) (omega arith)
 
 -- lossless reverse
 module _ (H y cb cr : ℕ) where

@@ -1,6 +1,6 @@
 -- The lossless formulas lose nothing: every sample fits its plane, and reverse after forward is the pixel.
 -- Forward gives y = (g + t) / 2, cb = g + H − t and cr = r + H − b with t = (r + b) / 2, and H is above every sample.
-use mathlib.Core.Path.{_≡_, ap, _∙_, subst}
+use mathlib.Core.Path.{_≡_, refl, ap, _∙_, subst}
 use Prim.Native.Nat.{ℕ, _+_, _-_, _/_, _^_, _≤_}
 use native.Mathlib.Omega.{arith}
 use lib.IntN.{pos, _+ℤ_, _-ℤ_}
@@ -35,9 +35,9 @@ module _ (d : Depths) (p : Pixel) (k : LosslessDepths d) (h : InsideRGB d p) whe
       let u = above in
       λ i.
       record {
-        p0 = lossless-y (middle d) (p .p0) (p .p1) (p .p2) i;
-        p1 = lossless-cb (middle d) (p .p0) (p .p1) (p .p2) (omega arith) i;
-        p2 = lossless-cr (middle d) (p .p0) (p .p1) (p .p2) (omega arith) i;
+        p0 = lossless-y (middle d) (p .p0) (p .p1) (p .p2) refl i;
+        p1 = lossless-cb (middle d) (p .p0) (p .p1) (p .p2) refl (omega arith) i;
+        p2 = lossless-cr (middle d) (p .p0) (p .p1) (p .p2) refl (omega arith) i;
       }
 
   plainly-inside : InsideYCC d (plainly d p)

@@ -1,6 +1,6 @@
 -- `rounding::round_clip_by` meets its contract as `round_clip` does: a quotient that stops past every sample is past every top.
-use mathlib.Core.Path.{_≡_, ap, _∙_}
-use Prim.Native.Nat.{ℕ, _*_, _/_, min}
+use mathlib.Core.Path.{_≡_, _∙_}
+use Prim.Native.Nat.{ℕ, _+_, _*_, _-_, _/_, min}
 use native.Mathlib.Omega.{arith}
 use borrow.Author.Needs.{needs}
 use Rattle.sample.specs.Depth.{pastSamples}
@@ -8,9 +8,9 @@ use Rattle.rounding.proofs.Rounding.{below-zero, from-zero}
 use Rattle.rounding.proofs.round_clip_by.Statement.{statement}
 use Rattle.rounding.proofs.round_clip_by.Tie as tie
 
--- the quotient by what stands for twice the denominator
-by-twice : (n over den r : ℕ) → over ≡ 2 * den → r ≡ min (n / over) pastSamples → min r pastSamples ≡ min (n / (2 * den)) pastSamples
-by-twice n over den r e is = let same : n / over ≡ n / (2 * den) = ap (λ d. n / d) e in omega arith
+-- the quotient of what is to be divided by what stands for twice the denominator
+by-twice : (n over den m r : ℕ) → over ≡ 2 * den → m ≡ n → r ≡ min (m / over) pastSamples → min r pastSamples ≡ min (n / (2 * den)) pastSamples
+by-twice n over den m r e f is = let same : m / over ≡ n / (2 * den) = λ i. f i / e i in omega arith
 
 returns : tie.Need-returns
 returns c =
@@ -18,7 +18,7 @@ returns c =
     let a = s .args in
     c .lowered .ensures
     ∙ below-zero (a .p) (a .q) (a .den) (a .mid) (a .top) _ (omega arith) (omega arith) (omega arith)
-    (by-twice _ (a .by .over) (a .den) _ (s .pre .1 .1) (c .before .quotient .ensures))
+    (by-twice (2 * (a .q - a .p) + a .den) (a .by .over) (a .den) _ _ (s .pre .1 .1) (omega arith) (c .before .quotient .ensures))
 
 returns-2 : tie.Need-returns-2
 returns-2 c =
@@ -26,7 +26,7 @@ returns-2 c =
     let a = s .args in
     c .raised .ensures
     ∙ from-zero (a .p) (a .q) (a .den) (a .mid) (a .top) _ (omega arith) (omega arith) (omega arith)
-    (by-twice _ (a .by .over) (a .den) _ (s .pre .1 .1) (c .before .quotient2 .ensures))
+    (by-twice (2 * (a .p - a .q) + a .den) (a .by .over) (a .den) _ _ (s .pre .1 .1) (omega arith) (c .before .quotient2 .ensures))
 
 pub round-clip-by-spec : {M : Type 1} → statement M
 round-clip-by-spec =

@@ -4,7 +4,7 @@ use native.Mathlib.Omega.{arith}
 use lib.Pow.{pow-mono}
 use Rattle.sample.specs.Depth.{mostDepth, H}
 use Rattle.ycgco.specs.YCgCo.{losslessForward}
-use Rattle.ycgco.proofs.Arithmetic.{lossless-y, lossless-cb, lossless-cr}
+use Rattle.ycgco.proofs.Arithmetic.{made-of, lossless-y, lossless-cb, lossless-cr}
 use borrow.Author.Needs.{needs}
 use Rattle.ycgco.proofs.lossless_forward.Statement.{statement}
 use Rattle.ycgco.proofs.lossless_forward.Tie as tie
@@ -21,11 +21,8 @@ returns c =
     let h = H (a .d .chroma .0) in
     let w = wide (c .before .before .before .before) in
     rw (c .before .before .before .middle .ensures)
-    (λ i. record {
-      p0 = lossless-y h (a .p .p0) (a .p .p1) (a .p .p2) i;
-      p1 = lossless-cb h (a .p .p0) (a .p .p1) (a .p .p2) (omega arith) i;
-      p2 = lossless-cr h (a .p .p0) (a .p .p1) (a .p .p2) (omega arith) i;
-    })
+    (made-of (lossless-y h (a .p .p0) (a .p .p1) (a .p .p2) (omega arith)) (lossless-cb h (a .p .p0) (a .p .p1) (a .p .p2) (omega arith) (omega arith))
+    (lossless-cr h (a .p .p0) (a .p .p1) (a .p .p2) (omega arith) (omega arith)))
 
 pub lossless-forward-spec : {M : Type 1} → statement M
 lossless-forward-spec = tie.close (tie.spec (λ c κs. search needs) (λ c. search needs) (λ c. search needs) (λ c. search needs) (λ c. search needs) (λ c. search needs) (λ c. omega (arith, wide (c .before .before .before .before))) (λ c. search needs) (λ c. search needs) (λ c. omega (arith, wide (c .before .before .before .before))) (λ c. search needs) (λ c. search needs) (λ c. omega (arith, wide (c .before .before .before .before))) (λ c. omega (arith, wide (c .before .before .before .before))) returns)

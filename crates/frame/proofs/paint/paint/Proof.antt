@@ -26,10 +26,11 @@ turn : (c : tie.After-row-start2 Inv-loop μ-loop)
     (outputLayout (x .size) (length (x .b0 .now)) (length (x .b1 .now)) (length (x .b2 .now)))
     (l .b0) (l .b1) (l .b2) (l .j) (l .done) (c .before .row-start .result) (c .row-start2 .result)
 turn c =
+    let fits = c .before .before .before .before .before .before .before .before .before .before .pre .1 .0 in
     record {
-      input-fits = c .before .before .before .before .before .before .before .before .before .before .pre .1 .0;
+      input-fits = fits;
       so-far = c .before .before .before .loop .inv;
-      row-inside = c .before .before .loop-test .taken;
+      row-inside = omega (arith, c .before .before .loop-test .taken, fits .sized .height-within .from-least);
       starts-from = c .before .row-start .ensures;
       starts-to = c .row-start2 .ensures;
     }
@@ -62,7 +63,7 @@ zero-rest-requires c κs = let k = rest-long (c .before .before .before .before 
 returns : tie.Need-returns Inv-loop μ-loop
 returns c =
     let l = c .before .before .before .before .before .before .before .before .before .before in
-    painting-end (l .before .loop .inv) (l .loop-test .left) (c .before .before .before .before .before .before .zero-rest .ensures)
+    painting-end (l .before .loop .inv) (omega (arith, l .loop-test .left)) (c .before .before .before .before .before .before .zero-rest .ensures)
 
 pub paint-spec : {M : Type 1} → statement M
 paint-spec =
