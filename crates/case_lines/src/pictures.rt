@@ -25,7 +25,7 @@ const ROOM: usize = 20000;
 const LARGEST: u64 = 18446744073709551615;
 
 // How many samples there are that a word may say.
-const SAMPLES: u64 = form::LARGEST_SAMPLE + 1;
+const SAMPLES: u64 = sample::PAST_SAMPLES;
 
 // No position of a line: reading stopped at a word that is no number, or too large a one.
 const STOPPED: usize = LARGEST as usize;

@@ -8,6 +8,7 @@ use Rattle.text.specs.Words.{split, wordOf, indexIn}
 use Rattle.text.specs.Numerals.{numberOf}
 use Rattle.text.specs.declared.reading.Number.{Number}
 use Rattle.text.specs.declared.reading.Number.the-variants as number
+use Rattle.sample.specs.Depth.{mostDepth, M}
 use Rattle.meter.specs.declared.SampleKind.{SampleKind}
 use Rattle.meter.specs.declared.SampleKind.the-variants as kind
 use Rattle.setting.specs.declared.Call.{Call}
@@ -34,7 +35,7 @@ abbrev pub largestByte : ℕ
 largestByte = 255
 
 abbrev pub largestSample : ℕ
-largestSample = 65535
+largestSample = M mostDepth
 
 -- word n as a number, after words that had a fault or none
 abbrev pub taken : ℕ → ℕ → Number → ReadNumber

@@ -48,7 +48,7 @@ pub const CLEAR: u8 = 255;
 // The largest code or depth that a word may say, and the largest sample.
 const LARGEST_BYTE: u64 = 255;
 
-pub const LARGEST_SAMPLE: u64 = 65535;
+pub const LARGEST_SAMPLE: u64 = sample::PAST_SAMPLES - 1;
 
 // What one word stands for, or the setting's words or a pixel's, and the first word at fault among those that were read so far.
 pub struct ReadNumber {
