@@ -12,7 +12,6 @@ use Rattle.sample.specs.Depth.{InsideRGB, InsideYCC}
 use Rattle.sample.proofs.Choices.{must}
 use Rattle.refusal.specs.Rules.{NoneApplies}
 use Rattle.refusal.specs.declared.Place.{Place}
-use Rattle.planes.specs.First.{IsFirstPlace}
 use Rattle.planes.specs.Picture.{Picture, picture, pixelOf, layoutOf}
 use Rattle.planes.specs.Plane.{sampleAt}
 use Rattle.planes.specs.Sizes.{needed, LongEnough}

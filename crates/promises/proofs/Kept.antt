@@ -1,8 +1,7 @@
 -- Every entry point keeps its promise. The theorems speak of the contracts as the prover reads them in the source: `Post` of a call's
 -- arguments in their order, its result and what stands behind its parameters at exit.
-use mathlib.Core.Path.{_≡_, refl, ap, subst}
+use mathlib.Core.Path.{ap}
 use denote.Ref.{now}
-use lib.ListN.{length}
 use Rattle.setting.specs.declared.Way.the-variants.{Forward, Reverse}
 use Rattle.planes.specs.Picture.{picture}
 use Rattle.corkplover.specs.Meaning.{meaningOfPixel, meaningOfSource, meaningOfReading, meaningOfLevels, meaningOfFrame, meaningOfImage}

@@ -10,7 +10,7 @@ use Rattle.setting.specs.declared.Way.the-variants.{Forward, Reverse}
 use Rattle.meter.specs.declared.SampleKind.{SampleKind}
 use Rattle.meter.specs.declared.SampleKind.the-variants.{Y, Cb, Cr}
 use Rattle.planes.specs.Picture.{picture}
-use Rattle.corkplover.specs.After.{ReadingAfter, LevelsAfter}
+use Rattle.corkplover.specs.After.{ReadingAfter}
 use Rattle.corkplover.specs.Answers.{pixelAnswer}
 use Rattle.corkplover.specs.Meaning.{meaningInPixel, meaningInReading, meaningInLevels, meaningInFrame, meaningInImage}
 use Rattle.corkplover.specs.Packing.{settingIn, pixelFrom, sizes, packedPixel}

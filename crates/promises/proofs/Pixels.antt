@@ -28,7 +28,7 @@ use Rattle.meter.specs.declared.SampleKind.the-variants as kind
 use Rattle.meter.proofs.Scales.{level-rounded-once}
 use Rattle.plan.specs.Source.{HasSource, hasSource}
 use Rattle.plan.proofs.ConversionTheorems.{tested, has-source}
-use Rattle.admit.specs.Rules.{beyondDepth, pixelPicture, topOf, badOne, pixelRules, sampleRules, pixelAdmission}
+use Rattle.admit.specs.Rules.{beyondDepth, pixelPicture, topOf, badOne, pixelRules, pixelAdmission}
 use Rattle.admit.proofs.Accepted.{Accepted, PixelAdmitted, pixel-admitted, inside-exactly}
 use Rattle.corkplover.specs.Answers.{convertedBy, pixelAnswer, sourceBy, sourceAnswer, readBy, reading, levelsReadBy, levelsAnswer}
 use Rattle.corkplover.specs.Meaning.{meaningOfPixel, meaningOfSource, meaningOfReading, meaningOfLevels}

@@ -2,7 +2,7 @@
 use mathlib.Core.Path.{_≡_, refl, sym, ap, _∙_, subst}
 use mathlib.Core.Bool.{Bool, true, false, cond}
 use mathlib.Core.List.{List, [], _∷_, _++_}
-use Prim.Native.Nat.{ℕ}
+use Prim.Native.Nat.{ℕ, _<_}
 use native.Mathlib.Omega.{arith}
 use borrow.Author.Tests.{eqb-false}
 use lib.Dec.{eqb}
@@ -62,22 +62,23 @@ all-numbered call s sizes bad h = (refl, (refl, (refl, (refl, (refl, (refl, (ref
     rest [] h = last bad
     rest (r ∷ rs) h = (h .0, rest rs (h .1))
 
--- a refusal that is neither 0 nor 10 and names no place
-record Other (x : Refusal) : Type 0 where
-  not-0 : eqb (x .number) 0 ≡ false
-  not-10 : eqb (x .number) 10 ≡ false
-  no-place : x .place ≡ nowhere
+-- a refusal that is neither 0 nor 10, whose number fits into a byte, and that names no place
+pub record Other (x : Refusal) : Type 0 where
+  pub not-0 : eqb (x .number) 0 ≡ false
+  pub not-10 : eqb (x .number) 10 ≡ false
+  pub byte : x .number < 256
+  pub no-place : x .place ≡ nowhere
 
-other : (n : ℕ) → eqb n 0 ≡ false → eqb n 10 ≡ false → Other (numbered n)
-other n e f = record { not-0 = e; not-10 = f; no-place = refl }
+other : (n : ℕ) → (eqb n 0 ≡ false) × (eqb n 10 ≡ false) → n < 256 → Other (numbered n)
+other n e h = record { not-0 = e .0; not-10 = e .1; byte = h; no-place = refl }
 
-setting-others : (c : Call) (s : Setting) → EveryRule Other (settingRules c s)
+pub setting-others : (c : Call) (s : Setting) → EveryRule Other (settingRules c s)
 setting-others c s =
     let o = other in
-    (o 1 refl refl, (o 2 refl refl, (o 3 refl refl, (o 4 refl refl, (o 5 refl refl, (o 6 refl refl, (o 7 refl refl, (o 11 refl refl, tt))))))))
+    (o 1 (refl, refl) (omega arith), (o 2 (refl, refl) (omega arith), (o 3 (refl, refl) (omega arith), (o 4 (refl, refl) (omega arith), (o 5 (refl, refl) (omega arith), (o 6 (refl, refl) (omega arith), (o 7 (refl, refl) (omega arith), (o 11 (refl, refl) (omega arith), tt))))))))
 
-size-others : (width height : ℕ) (layouts : List Layout) → EveryRule Other (sizeRules width height layouts)
-size-others width height layouts = (other 8 refl refl, (other 9 refl refl, tt))
+pub size-others : (width height : ℕ) (layouts : List Layout) → EveryRule Other (sizeRules width height layouts)
+size-others width height layouts = (other 8 (refl, refl) (omega arith), (other 9 (refl, refl) (omega arith), tt))
 
 numbered-others : (rs : List Rule) → EveryRule Other rs → Numbered rs
 numbered-others [] h = tt

@@ -1,6 +1,6 @@
 -- Nothing of an earlier client remains, and no padding matters: two calls whose input planes agree in length and inside the picture, and
 -- whose output planes o and p have the same lengths, whatever those held, answer and leave the same.
-use mathlib.Core.Path.{_≡_, refl, sym, ap, _∙_}
+use mathlib.Core.Path.{_≡_, refl, ap, _∙_}
 use mathlib.Core.List.{List, [], _∷_}
 use Prim.Native.Nat.{ℕ, _<_}
 use lib.ListN.{length}

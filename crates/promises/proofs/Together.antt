@@ -1,9 +1,8 @@
 -- What two calls of the box come to, one beside the other: nothing of an earlier client remains, and on the settings of the list a
 -- conversion comes back and is one-to-one. Said of the entry points' own contracts.
-use mathlib.Core.Path.{_≡_, refl, ap, _∙_, sym}
+use mathlib.Core.Path.{_≡_, refl, _∙_, sym}
 use denote.Ref.{now}
 use lib.ListN.{length}
-use Rattle.planes.specs.Picture.{picture}
 use Rattle.planes.specs.Sizes.{Fits}
 use Rattle.setting.specs.declared.Way.the-variants.{Forward, Reverse}
 use Rattle.frame.specs.Frame.{inputPicture, outputLayout}

@@ -11,7 +11,7 @@ use Rattle.sample.specs.declared.Pixel.{Pixel}
 use Rattle.sample.specs.declared.Side.{Side}
 use Rattle.sample.specs.declared.Side.the-variants.{Rgb, Ycc}
 use Rattle.sample.proofs.DepthLaws.{powers}
-use Rattle.refusal.specs.Rules.{Rule, first, numbered, badAt, at}
+use Rattle.refusal.specs.Rules.{Rule, first, badAt, at}
 use Rattle.refusal.specs.declared.Check.the-variants.{Passed}
 use Rattle.refusal.specs.declared.Place.{Place}
 use Rattle.refusal.specs.declared.Refusal.{Refusal}
@@ -41,15 +41,16 @@ use Rattle.plan.specs.Conversion.{convert}
 use Rattle.plan.specs.Source.{hasSource}
 use Rattle.plan.proofs.ConversionTheorems.{forward-inside, reverse-inside}
 use Rattle.admit.specs.Rules.{callAdmission, beyondDepth, pixelPicture, topOf, badOne}
-use Rattle.admit.proofs.Accepted.{Accepted, accepted-of, all-fit, inside-exactly}
+use Rattle.admit.proofs.Accepted.{Accepted, accepted-of, inside-exactly}
 use Rattle.admit.proofs.AdmitLaws.{each-answer}
 use Rattle.frame.specs.Frame.{frameBy, frameAnswer}
 use Rattle.image_check.specs.Image.{fails, firstFailing, answerFound, imageBy, imageAnswer}
 use Rattle.corkplover.specs.Answers.{convertedBy, pixelAnswer, readBy, reading, levelsReadBy, levelsAnswer}
 use Rattle.corkplover.specs.Meaning.{Meaning, meaningRefusal, meaningSamples, meaningSource, meaningUnless, meaningOfPixel, meaningOfReading, meaningOfLevels, meaningOfFrame, meaningOfImage, meaningInPixel, meaningInReading, meaningInLevels, meaningInFrame, meaningInImage}
-use Rattle.corkplover.specs.Packing.{packed, packedRefusal, packedPixel, packedReading, levelIn, packedLevels, yIn, cbIn, crIn, packedFrame, packedImage}
+use Rattle.corkplover.specs.Packing.{packedRefusal, packedPixel, packedReading, levelIn, packedLevels, yIn, cbIn, crIn, packedFrame, packedImage}
 use Rattle.corkplover.specs.declared.pixels.PixelAnswer.the-variants.{Converted}
 use Rattle.promises.proofs.Fields.{fields}
+use Rattle.promises.proofs.Refusing.{Other, setting-others, size-others}
 
 -- a refusal that the fields have room for, and that is told from none by its number
 record Small (r : Refusal) : Type 0 where
@@ -59,16 +60,12 @@ record Small (r : Refusal) : Type 0 where
   row-small : r .place .row < 65536
   column-small : r .place .column < 65536
 
-small-numbered : (n : ℕ) → eqb n 0 ≡ false → n < 256 → Small (numbered n)
-small-numbered n e h = record { number-some = e; number-small = h; plane-small = omega arith; row-small = omega arith; column-small = omega arith }
-
-setting-small : (c : Call) (s : Setting) → EveryRule Small (settingRules c s)
-setting-small c s =
-    let n = small-numbered in
-    (n 1 refl (omega arith), (n 2 refl (omega arith), (n 3 refl (omega arith), (n 4 refl (omega arith), (n 5 refl (omega arith), (n 6 refl (omega arith), (n 7 refl (omega arith), (n 11 refl (omega arith), tt))))))))
-
-sizes-small : (width height : ℕ) (layouts : List Layout) → EveryRule Small (sizeRules width height layouts)
-sizes-small width height layouts = (small-numbered 8 refl (omega arith), (small-numbered 9 refl (omega arith), tt))
+other-small : (r : Refusal) → Other r → Small r
+other-small r o =
+    let plane = ap (λ p. p .plane) (o .no-place) in
+    let row = ap (λ p. p .row) (o .no-place) in
+    let column = ap (λ p. p .column) (o .no-place) in
+    record { number-some = o .not-0; number-small = o .byte; plane-small = omega arith; row-small = omega arith; column-small = omega arith }
 
 -- what a number means by whether its lowest bits are 0
 refused-means : (b : Bool) (m n : Meaning) → b ≡ false → cond b m n ≡ n
@@ -87,7 +84,7 @@ refusal-out r m h =
 
 -- ---- of any call: what is heard of it, and what it says
 
-module _ (heard say : Admission → Meaning) (c : Call) (s : Setting) (sizes : List Rule) (small : EveryRule Small sizes) (bad : Found)
+module _ (heard say : Admission → Meaning) (c : Call) (s : Setting) (sizes : List Rule) (others : EveryRule Other sizes) (bad : Found)
     (refused : (r : Refusal) → Small r → heard (admission.Refused r) ≡ say (admission.Refused r))
     (fit : first sizes ≡ Passed → (place : Place) → bad ≡ found.At place → Small (badAt place))
     (served-out : Accepted c s sizes bad → heard (admission.Admitted (served s)) ≡ say (admission.Admitted (served s)))
@@ -97,8 +94,8 @@ module _ (heard say : Admission → Meaning) (c : Call) (s : Setting) (sizes : L
 
     call-out : heard (callAdmission c s sizes bad) ≡ say (callAdmission c s sizes bad)
     call-out =
-        each-answer Out c s sizes bad (λ r e f. refused r (first-has Small (settingRules c s) r (setting-small c s) e))
-        (λ r e f. refused r (first-has Small sizes r small e)) (λ e place g f. refused (badAt place) (fit e place g)) (λ f. f refl)
+        each-answer Out c s sizes bad (λ r e f. refused r (other-small r (first-has Other (settingRules c s) r (setting-others c s) e)))
+        (λ r e f. refused r (other-small r (first-has Other sizes r others e))) (λ e place g f. refused (badAt place) (fit e place g)) (λ f. f refl)
         (λ e. rw e (served-out (accepted-of c s sizes bad (served s) e .0)))
 
 bad-small : (place : Place) → place .plane < 256 → place .row < 65536 → place .column < 65536 → Small (badAt place)
@@ -175,7 +172,7 @@ pub frame-unpacked : (w : Way) (s : Setting) (a : Picture) (b : Layout) → mean
 unfolding frameAnswer
 frame-unpacked w s a b =
     call-out (λ v. meaningInFrame (packedFrame (frameBy v))) (λ v. meaningOfFrame (frameBy v)) (call.Convert w) s _
-    (sizes-small (a .width) (a .height) (layoutOf a ∷ b ∷ [])) _ (λ r. refusal-out r _) (bad-in (inputOf w) s a (b ∷ [])) (λ k. refl)
+    (size-others (a .width) (a .height) (layoutOf a ∷ b ∷ [])) _ (λ r. refusal-out r _) (bad-in (inputOf w) s a (b ∷ [])) (λ k. refl)
 
 -- the image check's word: yes, or a pixel inside a picture of a served size
 word-out : (test : _) (a : Picture) (f : Found) → firstFailing test a ≡ f → a .height < 65536 → a .width < 65536
@@ -191,7 +188,7 @@ pub image-unpacked : (s : Setting) (a : Picture) → meaningInImage (packedImage
 unfolding imageAnswer
 image-unpacked s a =
     call-out (λ v. meaningInImage (packedImage (imageBy v a))) (λ v. meaningOfImage (imageBy v a)) call.ImageCheck s _
-    (sizes-small (a .width) (a .height) (layoutOf a ∷ [])) _ (λ r. refusal-out r _) (bad-in Ycc s a [])
+    (size-others (a .width) (a .height) (layoutOf a ∷ [])) _ (λ r. refusal-out r _) (bad-in Ycc s a [])
     (λ k.
     let sized = sizes.fits _ _ _ (k .sizes-pass) .0 .sized in
     word-out (hasSource (served s)) a (firstFailing (hasSource (served s)) a) refl (omega (arith, sized .height-within .to-most)) (omega (arith, sized .width-within .to-most)))

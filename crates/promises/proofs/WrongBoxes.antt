@@ -5,7 +5,6 @@ use mathlib.Core.List.{List, [], _∷_}
 use Prim.Native.Nat.{ℕ}
 use native.Mathlib.Omega.{arith}
 use lib.ListN.{getD}
-use Rattle.sample.specs.declared.Pixel.{Pixel}
 use Rattle.setting.specs.Label.{among, labelled, labelNumber, primariesLabel, transferLabel, matrixLabel}
 use Rattle.setting.specs.Matrix.{matrixOf}
 use Rattle.setting.specs.declared.Setting.{Setting}
