@@ -1,7 +1,7 @@
 -- Every field of a packed answer comes out again, and so does every field of a setting that was put into a word.
 use mathlib.Core.Path.{_≡_, refl, ap, _∙_}
 use mathlib.Core.Bool.{Bool, true, false}
-use Prim.Native.Nat.{ℕ, _+_, _*_, _/_, _%_, _<_}
+use Prim.Native.Nat.{ℕ, _+_, _*_, _/_, _%_, _^_, _<_}
 use native.Mathlib.Omega.{arith}
 use lib.Dec.{eqb}
 use Rattle.setting.specs.declared.Setting.{Setting}
@@ -69,6 +69,11 @@ setting-out s above h =
       «rgb_full» = rgb i;
       «ycc_full» = ycc i;
     }
+
+-- bit 48 is full RGB and no other flag
+pub flags-apart : (settingIn (2 ^ 48) .«rgb_full» ≡ true) × (settingIn (2 ^ 48) .«ycc_full» ≡ false)
+unfolding settingIn
+flags-apart = (refl, refl)
 
 -- and a word of 64 bits has room for it, with 14 bits above
 pub word-fits : (s : Setting) (above : ℕ) → Bytes s → above < 16384 → settingWord s above < 18446744073709551616
