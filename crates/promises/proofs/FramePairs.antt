@@ -28,14 +28,10 @@ use Rattle.corkplover.specs.Meaning.{Meaning}
 use Rattle.promises.specs.Frames.{ConvertsFrame, ConvertsPlanes, leftIn, HandedOn, SamePixels}
 use Rattle.promises.specs.Lossless.{Listed}
 use Rattle.promises.proofs.Frames.{frame-accepted}
-use Rattle.promises.proofs.Lossless.{converts-too, lossless-exactly}
+use Rattle.promises.proofs.Lossless.{converts-too, taken}
 use Rattle.promises.proofs.Refusing.{accepted-none}
 
 module _ (s : Setting) (l : Listed s) where
-  -- a forward call that is not refused, on a setting of the list: the image check takes the setting
-  takes : (a : Picture) (b : Layout) → NoneApplies (pictureRules (Convert Forward) s a (b ∷ [])) → first (settingRules ImageCheck s) ≡ Passed
-  takes a b h = lossless-exactly s .1 (frame-accepted Forward s a b h .setting, l)
-
   pub frames-one-to-one : {a a' c c' : Picture} {b b' : Layout} {m m' : Meaning} → ConvertsFrame Forward s a b m c → ConvertsFrame Forward s a' b' m' c'
       → m .number ≡ 0 → m' .number ≡ 0 → a .width ≡ a' .width → a .height ≡ a' .height
       → ((j i : ℕ) → j < a .height → i < a .width → pixelOf c j i ≡ pixelOf c' j i) → SamePixels a a'
@@ -44,7 +40,7 @@ module _ (s : Setting) (l : Listed s) where
       let h' = f' .refuses .exactly .accepted e' in
       let x' : j < a' .height = omega (arith, x, high) in
       let y' : i < a' .width = omega (arith, y, wide) in
-      let image = takes a b h in
+      let image = taken s (frame-accepted Forward s a b h .setting) l in
       one-to-one (served s) (pixelOf a j i) (pixelOf a' j i) (ready ImageCheck s image) (is-kept s image)
       (pixels-inside (Convert Forward) s a (b ∷ []) (frame-accepted Forward s a b h) j i x y)
       (pixels-inside (Convert Forward) s a' (b' ∷ []) (frame-accepted Forward s a' b' h') j i x' y')
@@ -64,7 +60,7 @@ module _ (s : Setting) (l : Listed s) where
       accepted = frame-accepted Forward s a b free
 
       image : first (settingRules ImageCheck s) ≡ Passed
-      image = takes a b free
+      image = taken s (accepted .setting) l
 
       sent-inside : EveryPixel (InsideYCC (depths s)) sent
       sent-inside j i x y =

@@ -24,10 +24,10 @@ use Rattle.setting.specs.Rules.{depths, served}
 use Rattle.setting.specs.declared.Call.the-variants.{ImageCheck}
 use Rattle.setting.specs.declared.Setting.{Setting}
 use Rattle.setting.specs.declared.Way.the-variants.{Forward, Reverse}
-use Rattle.setting.proofs.ReadyLaws.{ready, is-kept}
+use Rattle.setting.proofs.ReadyLaws.{ready}
 use Rattle.plan.specs.Conversion.{convert}
 use Rattle.plan.specs.Source.{HasSource, hasSource}
-use Rattle.plan.proofs.ConversionTheorems.{reverse-inside, same-pixel, tested, has-source}
+use Rattle.plan.proofs.ConversionTheorems.{reverse-inside, same-pixel}
 use Rattle.admit.specs.Rules.{pictureRules}
 use Rattle.admit.proofs.Accepted.{PictureAccepted, pixels-inside}
 use Rattle.frame.specs.Frame.{mappedSample, mappedPlane}
@@ -36,7 +36,7 @@ use Rattle.corkplover.specs.Meaning.{Meaning, meaningOfImage}
 use Rattle.promises.specs.Images.{SourcePicture, FirstSourceless, ChecksImage}
 use Rattle.promises.proofs.Refusing.{none-admitted, none-accepted, image-refuses}
 use Rattle.promises.proofs.Frames.{index-inside}
-use Rattle.promises.proofs.Pixels.{same-word}
+use Rattle.promises.proofs.Pixels.{same-word, source-exactly}
 
 -- what was found, from what the answer means
 yes-found : {m : Meaning} (f : Found) → m ≡ meaningOfImage (answerFound f) → m .source ≡ true ∷ [] → f ≡ found.Nothing
@@ -68,9 +68,7 @@ module _ (s : Setting) (a : Picture) (h : NoneApplies (pictureRules ImageCheck s
 
   -- the test of a pixel, and the claim
   exactly : (j i : ℕ) → j < a .height → i < a .width → (hasSource (served s) (pixelOf a j i) ≡ true) ↔ HasSource (served s) (pixelOf a j i)
-  exactly j i x y =
-      let kept = is-kept s (k .setting) in
-      (tested (served s) (pixelOf a j i) is-ready kept (within j i x y), has-source (served s) (pixelOf a j i) is-ready kept)
+  exactly j i x y = source-exactly s (pixelOf a j i) (k .setting) (within j i x y)
 
   passing : (j i : ℕ) → j < a .height → i < a .width → (fails (hasSource (served s)) a j i ≡ false) ↔ HasSource (served s) (pixelOf a j i)
   passing j i x y = let t = exactly j i x y in (λ q. t .0 (not-false _ q), λ h. ap not (t .1 h))

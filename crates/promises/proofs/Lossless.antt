@@ -140,7 +140,7 @@ module _ (s : Setting) (e : first (settingRules (Convert Forward) s) ≡ Passed)
       of-other-call (Convert Forward) ImageCheck s e
       (subst (λ k. keeps k (depths s) ≡ true) (sym (ap (λ y. y .lossless) q ∙ l)) (le-leb (depths s .rgb .0 + least) (depths s .chroma .0) h))
 
-  taken : Listed s → first (settingRules ImageCheck s) ≡ Passed
+  pub taken : Listed s → first (settingRules ImageCheck s) ≡ Passed
   unfolding matrixOf
   taken (code-0 q) = keeps-all changedPlaces 0 0 (ap (λ n. entryOf (matrixOf n)) q) refl refl (λ b c. omega arith)
   taken (code-8 q p) = keeps-all (ycgco 0 1) 0 1 (ap (λ n. entryOf (matrixOf n)) q) refl refl (λ b c. omega (arith, p))

@@ -2,10 +2,11 @@
 use mathlib.Core.Path.{_≡_, refl, sym, ap, _∙_}
 use mathlib.Core.Bool.{Bool, true, false, true≢false, cond}
 use mathlib.Core.List.{List, [], _∷_}
+use mathlib.Core.Logic.{_↔_}
 use Prim.Native.Nat.{ℕ, _≤_}
 use native.Mathlib.Omega.{arith}
 use lib.ListN.{getD}
-use Rattle.sample.specs.Depth.{M, Depth, mostDepth, InsideOf}
+use Rattle.sample.specs.Depth.{M, Depth, mostDepth, InsideOf, InsideYCC}
 use Rattle.sample.specs.declared.Depths.{Depths}
 use Rattle.sample.specs.declared.Pixel.{Pixel}
 use Rattle.sample.proofs.Choices.{cannot}
@@ -78,12 +79,14 @@ pub same-word : {l : List Bool} {b c : Bool} → l ≡ b ∷ [] → l ≡ c ∷ 
 same-word e f = ap (λ l. getD l 0 true) (sym e ∙ f)
 
 -- the test is the claim
-pub source-exactly : (s : Setting) (p : Pixel) → NoneApplies (pixelRules call.ImageCheck s p)
-    → (hasSource (served s) p ≡ true → HasSource (served s) p) × (HasSource (served s) p → hasSource (served s) p ≡ true)
-source-exactly s p h =
-    let t = pixel-taken call.ImageCheck s p h in
-    let k = is-kept s (pixel-accepted call.ImageCheck s p h .setting) in
-    (tested (served s) p (t .is-ready) k (t .inside), has-source (served s) p (t .is-ready) k)
+pub source-exactly : (s : Setting) (p : Pixel) → first (settingRules call.ImageCheck s) ≡ Passed → InsideYCC (depths s) p
+    → (hasSource (served s) p ≡ true) ↔ HasSource (served s) p
+source-exactly s p e h =
+    let r = ready call.ImageCheck s e in
+    (tested (served s) p r (is-kept s e) h, has-source (served s) p r (is-kept s e))
+
+exactly-tested : (s : Setting) (p : Pixel) → NoneApplies (pixelRules call.ImageCheck s p) → (hasSource (served s) p ≡ true) ↔ HasSource (served s) p
+exactly-tested s p h = source-exactly s p (pixel-accepted call.ImageCheck s p h .setting) (pixel-taken call.ImageCheck s p h .inside)
 
 source-says : (s : Setting) (p : Pixel) → NoneApplies (pixelRules call.ImageCheck s p)
     → meaningOfSource (sourceAnswer s p) .source ≡ hasSource (served s) p ∷ []
@@ -97,11 +100,11 @@ pixel-checks s p =
       refuses = r;
       yes = λ e.
           let says = source-says s p (r .exactly .accepted e) in
-          let t = source-exactly s p (r .exactly .accepted e) in
+          let t = exactly-tested s p (r .exactly .accepted e) in
           (λ q. t .0 (same-word says q), λ h. says ∙ ap (λ b. b ∷ []) (t .1 h));
       none = λ e.
           let says = source-says s p (r .exactly .accepted e) in
-          let t = source-exactly s p (r .exactly .accepted e) in (
+          let t = exactly-tested s p (r .exactly .accepted e) in (
             λ q h. true≢false (sym (t .1 h) ∙ same-word says q),
             λ f. says ∙ ap (λ b. b ∷ []) (cannot (hasSource (served s) p) (λ q. f (t .0 q))),
           );

@@ -91,9 +91,9 @@ H depth = 2 ^ (depth - 1)
 abbrev pub middleOf : ChromaDepth → ℕ
 middleOf d = H (d .0)
 
--- S, the step of narrow range: 2^s, where s is how many bits the depth has more than the least
+-- S, the step of narrow range: 2^s, where s is the depth less 8. H.273's 8, whatever the least depth of the box is.
 abbrev pub S : ℕ → ℕ
-S depth = 2 ^ (depth - leastDepth)
+S depth = 2 ^ (depth - 8)
 
 -- a pixel whose samples lie within the depths of their planes
 pub record Inside (d0 d1 d2 : ℕ) (p : Pixel) : Type 0 where

@@ -240,10 +240,10 @@ fn largest(depth: u8) -> u16
     (count - 1) as u16
 }
 
-// S, the step of narrow range.
+// S, the step of narrow range: it is 1 at 8 bits, whatever the least depth is.
 fn step(depth: u8) -> u16
     requires { ⌜ Depth depth ⌝ }
     ensures { λ r. ⌜ r ≡ S depth ⌝ }
 {
-    power(depth - LEAST_DEPTH)
+    power(depth - 8)
 }
