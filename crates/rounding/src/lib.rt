@@ -2,7 +2,8 @@
 pub mod quotient;
 
 ghost use mathlib.Core.Path.{_≡_};
-ghost use Prim.Native.Nat.{_+_, _*_, _-_, _≤_, min};
+ghost use mathlib.Core.Bool.{cond};
+ghost use Prim.Native.Nat.{_+_, _*_, _-_, _^_, _≤_, _<_, min};
 ghost use lib.IntN.{pos, _+ℤ_, _-ℤ_};
 ghost use Rattle.sample.specs.Depth.{mostDepth, M};
 ghost use Rattle.rounding.specs.Rounding.{round, clip, Rounds};
@@ -32,17 +33,37 @@ fn raised(n: u64, mid: u64, top: u64) -> u16
     (mid + n) as u16
 }
 
+// mid moved by n, down or up, and brought into 0..top.
+fn moved(n: u64, mid: u64, top: u64, down: bool) -> u16
+    requires { ⌜ mid ≤ top ⌝ }
+    requires { ⌜ top ≤ M mostDepth ⌝ }
+    ensures { λ r. ⌜ r ≡ cond down (mid - n) (min (mid + n) top) ⌝ }
+{
+    if down {
+        return lowered(n, mid);
+    }
+    raised(n, mid, top)
+}
+
+// What is divided by 2 * den, on either side of zero: twice how far p is from q, and den, which carries a half away from zero.
+fn dividend(p: u64, q: u64, den: u64) -> u64
+    requires { ⌜ 2 * p + den < 2 ^ 64 ⌝ }
+    requires { ⌜ 2 * q + den < 2 ^ 64 ⌝ }
+    ensures { λ r. ⌜ r ≡ 2 * (p - q + (q - p)) + den ⌝ }
+{
+    if p < q {
+        return 2 * (q - p) + den;
+    }
+    2 * (p - q) + den
+}
+
 // Clip(Round((p - q) / den) + mid) into 0..top. For a denominator that is a literal.
 pub fn round_clip(p: u64, q: u64, den: u64, mid: u64, top: u64) -> u16
     requires { ⌜ Rounds p q den mid top ⌝ }
     ensures { λ r. ⌜ r ≡ clip top (round (pos p -ℤ pos q) den +ℤ pos mid) ⌝ }
 {
-    if p < q {
-        let n = (2 * (q - p) + den) / (2 * den);
-        return lowered(n, mid);
-    }
-    let n = (2 * (p - q) + den) / (2 * den);
-    raised(n, mid, top)
+    let n = dividend(p, q, den) / (2 * den);
+    moved(n, mid, top, p < q)
 }
 
 // The same, for a denominator that many numbers are divided by: `by` stands for twice that.
@@ -52,12 +73,8 @@ pub fn round_clip_by(p: u64, q: u64, den: u64, by: Divisor, mid: u64, top: u64) 
     requires { ⌜ by .over ≡ 2 * den ⌝ }
     ensures { λ r. ⌜ r ≡ clip top (round (pos p -ℤ pos q) den +ℤ pos mid) ⌝ }
 {
-    if p < q {
-        let n = quotient::quotient(2 * (q - p) + den, by);
-        return lowered(n, mid);
-    }
-    let n = quotient::quotient(2 * (p - q) + den, by);
-    raised(n, mid, top)
+    let n = quotient::quotient(dividend(p, q, den), by);
+    moved(n, mid, top, p < q)
 }
 
 // Clip(p - q) into 0..top.
