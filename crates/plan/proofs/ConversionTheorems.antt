@@ -69,7 +69,7 @@ module _ (w : Way) (d : Depths) (p : Pixel) where
 
 module _ (d : Depths) (h : ThreeDepths d) (k : (d .rgb .0 ≤ d .luma .0) × (d .luma .0 ≤ d .chroma .0)) where
   pub lossless-depths : d .rgb .0 < d .chroma .0 → LosslessDepths d
-  lossless-depths l = record { chroma-room = omega arith; luma-room = k .0; chroma-most = h .chroma .most }
+  lossless-depths l = record { rgb-some = omega arith; chroma-room = omega arith; luma-room = k .0; chroma-most = h .chroma .most }
 
   pub lossy-depths : LossyDepths d
   lossy-depths = record { rgb-most = h .rgb .most; chroma-some = omega (arith, h .chroma .least); chroma-most = h .chroma .most }

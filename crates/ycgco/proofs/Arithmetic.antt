@@ -28,13 +28,13 @@ module _ (H r g b : ℕ) where
   pub lossless-y : {n : ℕ} → n ≡ (g + (r + b) / 2) / 2 → n ≡ sample (T +ℤ half (pos g -ℤ T +ℤ pos H -ℤ pos H))
   lossless-y e = e ∙ is-sample _ (search parts depth 20) (omega arith)
 
--- lossless reverse
+-- lossless reverse, where H is even
 module _ (H y cb cr : ℕ) where
-  pub lossless-g : pos (y + cb) -ℤ pos ((cb + H) / 2) ≡ pos y -ℤ half (pos cb -ℤ pos H) +ℤ (pos cb -ℤ pos H)
-  lossless-g = same (search parts depth 20) (search parts depth 20) (omega arith)
+  pub lossless-g : H ≡ H / 2 * 2 → pos (y + (cb - cb / 2)) -ℤ pos (H / 2) ≡ pos y -ℤ half (pos cb -ℤ pos H) +ℤ (pos cb -ℤ pos H)
+  lossless-g e = same (search parts depth 20) (search parts depth 20) (omega arith)
 
-  pub lossless-b : pos (y + 2 * H) -ℤ pos ((cb + H) / 2 + (cr + H) / 2) ≡ pos y -ℤ half (pos cb -ℤ pos H) -ℤ half (pos cr -ℤ pos H)
-  lossless-b = same (search parts depth 20) (search parts depth 20) (omega arith)
+  pub lossless-b : H ≡ H / 2 * 2 → pos (y + H) -ℤ pos (cb / 2 + cr / 2) ≡ pos y -ℤ half (pos cb -ℤ pos H) -ℤ half (pos cr -ℤ pos H)
+  lossless-b e = same (search parts depth 20) (search parts depth 20) (omega arith)
 
   pub lossless-r : (b : ℕ) → pos (b + cr) -ℤ pos H ≡ pos b +ℤ (pos cr -ℤ pos H)
   lossless-r b = same (search parts depth 20) (search parts depth 20) (omega arith)

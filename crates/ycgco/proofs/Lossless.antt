@@ -14,6 +14,7 @@ use Rattle.sample.specs.declared.Pixel.{Pixel}
 use Rattle.sample.proofs.DepthLaws.{doubles}
 use Rattle.ycgco.specs.YCgCo.{LosslessDepths, YOf, CbOf, CrOf, losslessForward, losslessReverse}
 use Rattle.ycgco.proofs.Arithmetic.{lossless-y, lossless-cb, lossless-cr}
+use Rattle.ycgco.proofs.Middle.{wide}
 
 abbrev t : Pixel → ℕ
 t p = (p .p0 + p .p2) / 2
@@ -26,13 +27,10 @@ abbrev plainly : Depths → Pixel → Pixel
 plainly d p = record { p0 = (p .p1 + t p) / 2; p1 = p .p1 + middle d - t p; p2 = p .p0 + middle d - p .p2 }
 
 module _ (d : Depths) (p : Pixel) (k : LosslessDepths d) (h : InsideRGB d p) where
-  above : 2 ^ (d .rgb .0) ≤ middle d
-  above = pow-mono {j = d .chroma .0 - 1} (omega (arith, k .chroma-room))
-
   forward-plainly : plainly d p ≡ losslessForward d p
   unfolding losslessForward
   forward-plainly =
-      let u = above in
+      let u = wide k in
       λ i.
       record {
         p0 = lossless-y (middle d) (p .p0) (p .p1) (p .p2) refl i;
@@ -42,7 +40,7 @@ module _ (d : Depths) (p : Pixel) (k : LosslessDepths d) (h : InsideRGB d p) whe
 
   plainly-inside : InsideYCC d (plainly d p)
   plainly-inside =
-      let u = above in
+      let u = wide k in
       let e = doubles (d .chroma .0) (omega (arith, k .chroma-room)) in
       let w = pow-mono {j = d .luma .0} (k .luma-room) in
       record { in0 = omega arith; in1 = omega arith; in2 = omega arith }
@@ -54,7 +52,7 @@ module _ (d : Depths) (p : Pixel) (k : LosslessDepths d) (h : InsideRGB d p) whe
   -- and is the whole number of its formula, which is never negative
   pub lossless-exact : (pos (losslessForward d p .p0) ≡ YOf d p) × ((pos (losslessForward d p .p1) ≡ CbOf d p) × (pos (losslessForward d p .p2) ≡ CrOf d p))
   lossless-exact =
-      let u = above in
+      let u = wide k in
       rw (← forward-plainly)
       (is-pos _ (search parts depth 20) (omega arith), (is-pos _ (search parts depth 20) (omega arith), is-pos _ (search parts depth 20) (omega arith)))
 
@@ -65,13 +63,13 @@ module _ (d : Depths) (p : Pixel) (k : LosslessDepths d) (h : InsideRGB d p) whe
   q = plainly d p
 
   green : clip top (pos (q .p0) -ℤ half (pos (q .p1) -ℤ pos (middle d)) +ℤ (pos (q .p1) -ℤ pos (middle d))) ≡ p .p1
-  green = let u = above in clip-within top (p .p1) (search parts depth 30) (omega arith) (omega arith)
+  green = let u = wide k in clip-within top (p .p1) (search parts depth 30) (omega arith) (omega arith)
 
   blue : clip top (pos (q .p0) -ℤ half (pos (q .p1) -ℤ pos (middle d)) -ℤ half (pos (q .p2) -ℤ pos (middle d))) ≡ p .p2
-  blue = let u = above in clip-within top (p .p2) (search parts depth 30) (omega arith) (omega arith)
+  blue = let u = wide k in clip-within top (p .p2) (search parts depth 30) (omega arith) (omega arith)
 
   red : clip top (pos (p .p2) +ℤ (pos (q .p2) -ℤ pos (middle d))) ≡ p .p0
-  red = let u = above in clip-within top (p .p0) (search parts depth 30) (omega arith) (omega arith)
+  red = let u = wide k in clip-within top (p .p0) (search parts depth 30) (omega arith) (omega arith)
 
   -- reverse after forward is the pixel
   pub lossless-trip : losslessReverse d (losslessForward d p) ≡ p

@@ -89,6 +89,7 @@ losslessReverse d p = record { p0 = RBack d p; p1 = GBack d p; p2 = BBack d p }
 
 -- depths of which the lossless formulas lose nothing: chroma has a bit more than RGB, and luma no bit less
 pub record LosslessDepths (d : Depths) : Type 0 where
+  pub rgb-some : 1 ≤ d .rgb .0
   pub chroma-room : d .rgb .0 + 1 ≤ d .chroma .0
   pub luma-room : d .rgb .0 ≤ d .luma .0
   pub chroma-most : d .chroma .0 ≤ mostDepth

@@ -2,6 +2,7 @@
 ghost use mathlib.Core.Path.{_≡_};
 ghost use Rattle.sample.specs.Depth.{InsideRGB};
 ghost use Rattle.ycgco.specs.YCgCo.{lossyForward, lossyReverse, losslessForward, losslessReverse, LossyDepths, LosslessDepths};
+use rounding::narrow;
 use sample::Depths;
 use sample::Pixel;
 
@@ -58,20 +59,20 @@ pub fn lossless_forward(d: Depths, p: Pixel) -> Pixel
     }
 }
 
-// 59 to 62
+// 59 to 62. H is even, so half of what a chroma sample and H come to is half of each.
 pub fn lossless_reverse(d: Depths, p: Pixel) -> Pixel
     requires { ⌜ LosslessDepths d ⌝ }
     ensures { λ r. ⌜ r ≡ losslessReverse d p ⌝ }
 {
-    let h = d.chroma.middle() as u32;
-    let top = d.rgb.largest() as u32;
-    let y = p.p0 as u32;
-    let cb = p.p1 as u32;
-    let cr = p.p2 as u32;
-    let half_cb = (cb + h) / 2;
-    let half_cr = (cr + h) / 2;
-    let p1 = rounding::clip_difference(y + cb, half_cb, top);
-    let p2 = rounding::clip_difference(y + 2 * h, half_cb + half_cr, top);
-    let p0 = rounding::clip_difference(p2 as u32 + cr, h, top);
+    let h = d.chroma.middle();
+    let top = d.rgb.largest();
+    let y = p.p0;
+    let cb = p.p1;
+    let cr = p.p2;
+    let half_cb = cb / 2;
+    let half_cr = cr / 2;
+    let p1 = narrow::clip_moved(y, cb - half_cb, h / 2, top);
+    let p2 = narrow::clip_moved(y, h, half_cb + half_cr, top);
+    let p0 = narrow::clip_moved(p2, cr, h, top);
     Pixel { p0, p1, p2 }
 }
