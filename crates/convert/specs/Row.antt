@@ -1,11 +1,15 @@
 -- A row of pixels, as three rows of samples, and the row that a conversion makes of it.
 use mathlib.Core.Path.{_≡_}
 use mathlib.Core.List.{List, [], _∷_}
-use Prim.Native.Nat.{ℕ, _<_}
-use lib.ListN.{length, getD}
+use Prim.Native.Nat.{ℕ, _+_, _-_, _<_}
+use lib.ListN.{length, getD, take, drop}
 use Rattle.sample.specs.declared.Pixel.{Pixel}
 use Rattle.planes.specs.Picture.{sampleOf}
 use Rattle.planes.specs.Plane.{tab}
+
+-- the part of a plane that has n samples from index a on
+abbrev pub rowPart : List ℕ → ℕ → ℕ → List ℕ
+rowPart p a n = take (a + n - a) (drop a p)
 
 -- the pixel at index i
 abbrev pub pixelIn : List ℕ → List ℕ → List ℕ → ℕ → Pixel

@@ -1,19 +1,21 @@
 -- Laws of the loop that paints three planes: the parts that are lent for a row have its width and hold the picture's samples, so with
 -- each turn the planes are painted one row further.
-use mathlib.Core.Path.{_≡_, refl, sym, ap, subst}
+use mathlib.Core.Path.{_≡_, refl, ap, _∙_}
 use mathlib.Core.List.{List}
-use Prim.Native.Nat.{ℕ, _+_, _<_, _≤_}
+use Prim.Native.Nat.{ℕ, _+_, _*_, _/_, _%_, _<_, _≤_}
 use native.Mathlib.Omega.{arith}
-use lib.ListN.{length, getD}
+use lib.ListN.{length}
 use Rattle.sample.specs.declared.Pixel.{Pixel}
-use Rattle.planes.specs.Picture.{Picture, layoutOf, pixelOf, sampleOf, EveryPixel}
-use Rattle.planes.specs.Plane.{sampleAt, patched, cleared}
-use Rattle.planes.specs.Sizes.{layout, Long, RowStart, Fits}
+use Rattle.planes.specs.Picture.{Picture, picture, layoutOf, sampleOf, EveryPixel}
+use Rattle.planes.specs.Plane.{patched, cleared}
+use Rattle.planes.specs.Sizes.{layout, needed, Long, RowStart, Fits}
 use Rattle.planes.specs.declared.size.Layout.{Layout}
-use Rattle.planes.proofs.Painted.{Progress, progress-none, progress-more, Painted, painted-none, painted-more, painted-end}
-use Rattle.planes.proofs.Tables.{part-width, part-sample}
-use Rattle.convert.specs.Row.{pixelIn, EveryOf, OneWidth}
-use Rattle.frame.specs.Frame.{mappedSample, mappedPlane, lengthOf, MappedPlanes, rowPart, mappedPart, RowsPut}
+use Rattle.planes.proofs.Painted.{Progress, progress-none, progress-more, Painted, painted-none, painted-more, painted-whole, painted-end}
+use Rattle.planes.proofs.SizeLaws.{needed-whole}
+use Rattle.planes.proofs.Tables.{part-width}
+use Rattle.convert.specs.Row.{rowPart, EveryOf, OneWidth}
+use Rattle.convert.proofs.RunLaws.{Run, row-run, whole-run, run-pixel, run-of-every}
+use Rattle.frame.specs.Frame.{mappedSample, mappedPlane, lengthOf, MappedPlanes, mappedPart, RowsPut}
 
 -- six parts of one width
 pub parts-one-width : (a0 a1 a2 b0 b1 b2 : List ℕ) (from to width : ℕ)
@@ -76,21 +78,14 @@ module _ {f : Pixel → Pixel} {a : Picture} {b : Layout} {y0 y1 y2 : List ℕ} 
       let k = d .fits .long in
       omega (arith, t .starts-to .last, t .starts-to .is, d .progress .until-row, d .plane0 .len, d .plane1 .len, d .plane2 .len)
 
-  -- and those of the input hold its samples
-  part-pixel : (i : ℕ) → i < a .width
-      → pixelIn (rowPart (a .p0) from (a .width)) (rowPart (a .p1) from (a .width)) (rowPart (a .p2) from (a .width)) i ≡ pixelOf a j i
-  part-pixel i h =
-      let part : (p : List ℕ) → getD (rowPart p from (a .width)) i 0 ≡ sampleAt p (a .stride) j i =
-      λ p. part-sample p (a .stride) j from (a .width) i (t .starts-from .is) h in
-      rw (part (a .p0), part (a .p1), part (a .p2))
+  -- and those of the input hold the pixels of the row
+  row-turned : Run a from (a .width) (λ _. j) (λ k. k)
+  row-turned = row-run j (t .row-inside) (t .starts-from .is)
 
   pub row-lent : (fact : Pixel → Type 0) {n0 n1 n2 : ℕ} → EveryPixel fact a → n0 ≡ length y0 → n1 ≡ length y1 → n2 ≡ length y2
       → Long (from + a .width) (length (a .p0)) (length (a .p1)) (length (a .p2)) × (Long (to + a .width) n0 n1 n2
       × EveryOf fact (rowPart (a .p0) from (a .width)) (rowPart (a .p1) from (a .width)) (rowPart (a .p2) from (a .width)))
-  row-lent fact e l0 l1 l2 =
-      let k = output-long in
-      let inside : (i : ℕ) → i < length (rowPart (a .p0) from (a .width)) → i < a .width = λ i o. omega (arith, part-width (a .p0) from (a .width) (input-long .long0)) in
-      (input-long, (omega arith, λ i o. subst fact (sym (part-pixel i (inside i o))) (e j i (t .row-inside) (inside i o))))
+  row-lent fact e l0 l1 l2 = let k = output-long in (input-long, (omega arith, run-of-every row-turned fact e (input-long .long0)))
 
   -- y was zeroed up to the row, and then had the row put into its own part
   turned : (n : ℕ) {y z w : List ℕ} → to + a .width ≤ lengthOf n b → RowsPainted f a b n y j done
@@ -99,7 +94,7 @@ module _ {f : Pixel → Pixel} {a : Picture} {b : Layout} {y0 y1 y2 : List ℕ} 
   turned n k p e g =
       painted-more _ _ _ _ _ _ _ _ _ j done to _ _ p (t .so-far .fits .sized .stride-within .from-least) (t .row-inside)
       (output-long .0) (t .starts-to .is) k e refl (part-width (a .p0) from (a .width) (input-long .long0))
-      (λ i o. ap (λ q. sampleOf n (f q)) (part-pixel i o)) g
+      (λ i o. ap (λ q. sampleOf n (f q)) (run-pixel row-turned i o)) g
 
   pub painting-more : {z0 z1 z2 w0 w1 w2 : List ℕ} → Zeroed done to to to y0 y1 y2 z0 z1 z2
       → RowsPut f from to (a .width) (a .p0) (a .p1) (a .p2) z0 z1 z2 w0 w1 w2 → Painting f a b w0 w1 w2 (j + 1) (to + a .width)
@@ -112,6 +107,50 @@ module _ {f : Pixel → Pixel} {a : Picture} {b : Layout} {y0 y1 y2 : List ℕ} 
         plane0 = turned 0 (rw (d .plane0 .len) at (k .long0)) (d .plane0) (e .0) (g .0);
         plane1 = turned 1 (rw (d .plane1 .len) at (k .long1)) (d .plane1) (e .1 .0) (g .1 .0);
         plane2 = turned 2 (rw (d .plane2 .len) at (k .long2)) (d .plane2) (e .1 .1) (g .1 .1);
+      }
+
+-- All rows as one: n elements from the start of the planes, where nothing lies between the rows on either side.
+pub record Whole (a : Picture) (b : Layout) (n : ℕ) : Type 0 where
+  pub input-fits : Fits (a .width) (a .height) (layoutOf a)
+  pub output-fits : Fits (a .width) (a .height) b
+  pub input-close : a .stride ≡ a .width
+  pub output-close : b .stride ≡ a .width
+  pub long-as : n ≡ needed (a .width) (a .height) (a .width)
+
+module _ {a : Picture} {b : Layout} {n : ℕ} (t : Whole a b n) where
+  all : n ≡ a .height * a .width
+  all = t .long-as ∙ needed-whole (a .width) (a .height) (t .input-fits .sized .height-within .from-least)
+
+  whole-lent : Run a 0 n (λ k. k / a .width) (λ k. k % a .width)
+  whole-lent = whole-run (t .input-close) (t .input-fits .sized .width-within .from-least) all
+
+  inside-both : Long n (length (a .p0)) (length (a .p1)) (length (a .p2)) × Long n (b .n0) (b .n1) (b .n2)
+  inside-both =
+      let k = rw (t .input-close) at (t .input-fits .long) in
+      let l = rw (t .output-close) at (t .output-fits .long) in
+      omega (arith, t .long-as)
+
+  pub whole-taken : (fact : Pixel → Type 0) → EveryPixel fact a
+      → Long (0 + n) (length (a .p0)) (length (a .p1)) (length (a .p2)) × (Long (0 + n) (b .n0) (b .n1) (b .n2)
+      × EveryOf fact (rowPart (a .p0) 0 n) (rowPart (a .p1) 0 n) (rowPart (a .p2) 0 n))
+  whole-taken fact h = let k = inside-both in (omega arith, (omega arith, run-of-every whole-lent fact h (omega arith)))
+
+  covered : (f : Pixel → Pixel) (k : ℕ) (y : List ℕ) {w : List ℕ} → length y ≡ lengthOf k b → n ≤ lengthOf k b
+      → w ≡ patched y 0 (0 + n) (mappedPart k f 0 n (a .p0) (a .p1) (a .p2)) → RowsPainted f a b k w (a .height) n
+  covered f k y l h g =
+      painted-whole _ _ _ _ _ y _ _ n _ _ l (t .output-close) (t .input-fits .sized .width-within .from-least) all h refl
+      (part-width (a .p0) 0 n (let k = inside-both in omega arith)) (λ i o. ap (λ q. sampleOf k (f q)) (run-pixel whole-lent i o)) g
+
+  pub painting-whole : {f : Pixel → Pixel} (y0 y1 y2 : List ℕ) {w0 w1 w2 : List ℕ} → length y0 ≡ b .n0 → length y1 ≡ b .n1 → length y2 ≡ b .n2
+      → RowsPut f 0 0 n (a .p0) (a .p1) (a .p2) y0 y1 y2 w0 w1 w2 → Painting f a b w0 w1 w2 (a .height) n
+  painting-whole {f} y0 y1 y2 l0 l1 l2 g =
+      let k = inside-both .1 in
+      record {
+        fits = t .output-fits;
+        progress = rw (t .output-close) (record { rows = omega arith; until-row = omega (arith, all); until-end = omega (arith, t .long-as) });
+        plane0 = covered f 0 y0 l0 (k .long0) (g .0);
+        plane1 = covered f 1 y1 l1 (k .long1) (g .1 .0);
+        plane2 = covered f 2 y2 l2 (k .long2) (g .1 .1);
       }
 
 -- after the last row

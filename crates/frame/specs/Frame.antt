@@ -2,8 +2,8 @@
 -- held before is nowhere here.
 use mathlib.Core.Path.{_≡_}
 use mathlib.Core.List.{List, [], _∷_}
-use Prim.Native.Nat.{ℕ, _+_, _-_}
-use lib.ListN.{getD, take, drop}
+use Prim.Native.Nat.{ℕ, _+_}
+use lib.ListN.{getD}
 use Rattle.sample.specs.declared.Pixel.{Pixel}
 use Rattle.setting.specs.declared.Call.the-variants.{Convert}
 use Rattle.setting.specs.declared.Setting.{Setting}
@@ -16,7 +16,7 @@ use Rattle.planes.specs.Plane.{zeros, planeOf, patched}
 use Rattle.planes.specs.Sizes.{layout}
 use Rattle.planes.specs.declared.size.Layout.{Layout}
 use Rattle.plan.specs.Conversion.{convert}
-use Rattle.convert.specs.Row.{rowOf}
+use Rattle.convert.specs.Row.{rowPart, rowOf}
 use Rattle.admit.specs.Rules.{pictureAdmission}
 use Rattle.frame.specs.declared.Size.{Size}
 use Rattle.frame.specs.declared.FrameAnswer.{FrameAnswer}
@@ -77,10 +77,6 @@ abbrev pub MappedPlanes : (Pixel → Pixel) → Picture → Layout → List ℕ 
 MappedPlanes f a b p0 p1 p2 =
     (p0 ≡ mappedPlane 0 f a (b .stride) (b .n0))
     × ((p1 ≡ mappedPlane 1 f a (b .stride) (b .n1)) × (p2 ≡ mappedPlane 2 f a (b .stride) (b .n2)))
-
--- the part of a plane that is a row of n samples from index a
-abbrev pub rowPart : List ℕ → ℕ → ℕ → List ℕ
-rowPart p a n = take (a + n - a) (drop a p)
 
 -- row k of such parts of three planes, by a function of their pixels
 abbrev pub mappedPart : ℕ → (Pixel → Pixel) → ℕ → ℕ → List ℕ → List ℕ → List ℕ → List ℕ

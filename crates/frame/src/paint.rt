@@ -1,11 +1,11 @@
 // What an accepted conversion writes: every row into its own part of each plane, and zeros into the parts that the rows leave.
 ghost use Prim.Native.Nat.{_+_};
 ghost use lib.ListN.{length};
-ghost use Rattle.planes.specs.Picture.{layoutOf, EveryPixel};
-ghost use Rattle.planes.specs.Sizes.{Long, Fits};
+ghost use Rattle.planes.specs.Picture.{picture, layoutOf, EveryPixel};
+ghost use Rattle.planes.specs.Sizes.{layout, Long, Fits};
 ghost use Rattle.plan.specs.Plan.{planned, Roomy, Takes};
-ghost use Rattle.convert.specs.Row.{EveryOf};
-ghost use Rattle.frame.specs.Frame.{inputPicture, outputLayout, MappedPlanes, rowPart, RowsPut};
+ghost use Rattle.convert.specs.Row.{rowPart, EveryOf};
+ghost use Rattle.frame.specs.Frame.{inputPicture, outputLayout, MappedPlanes, RowsPut};
 use crate::Size;
 use plan::Plan;
 use planes::size::row_start;
@@ -43,8 +43,8 @@ fn paint_row(
     );
 }
 
-// Every element of the output planes: the rows of the picture, and zeros between them and after them.
-pub fn paint(
+// Row by row, with zeros between them and after them.
+fn paint_rows(
     plan: Plan,
     size: Size,
     a0: &[u16],
@@ -75,4 +75,61 @@ pub fn paint(
         done = to + width;
     }
     planes::fill::zero_rest(b0, b1, b2, done);
+}
+
+// All rows as one, where nothing lies between them on either side, with zeros after them.
+fn paint_whole(
+    plan: Plan,
+    width: usize,
+    height: usize,
+    a0: &[u16],
+    a1: &[u16],
+    a2: &[u16],
+    b0: &mut [u16],
+    b1: &mut [u16],
+    b2: &mut [u16],
+)
+    requires { ⌜ Roomy plan ⌝ }
+    requires { ⌜ Fits width height (layoutOf (picture width height width (now a0) (now a1) (now a2))) ⌝ }
+    requires { ⌜ Fits width height (layout width (length (now b0)) (length (now b1)) (length (now b2))) ⌝ }
+    requires { ⌜ EveryPixel (Takes plan) (picture width height width (now a0) (now a1) (now a2)) ⌝ }
+    ensures { λ _. ⌜ MappedPlanes (planned plan) (picture width height width (now (a0 .entry)) (now (a1 .entry)) (now (a2 .entry)))
+        (layout width (length (now (b0 .entry))) (length (now (b1 .entry))) (length (now (b2 .entry))))
+        (now (b0 .exit)) (now (b1 .exit)) (now (b2 .exit)) ⌝ }
+{
+    let n = row_start(height - 1, height, width) + width;
+    paint_row(plan, n, 0, 0, a0, a1, a2, b0, b1, b2);
+    planes::fill::zero_rest(b0, b1, b2, n);
+}
+
+// Every element of the output planes: the rows of the picture, and zeros between them and after them.
+pub fn paint(
+    plan: Plan,
+    size: Size,
+    a0: &[u16],
+    a1: &[u16],
+    a2: &[u16],
+    b0: &mut [u16],
+    b1: &mut [u16],
+    b2: &mut [u16],
+)
+    requires { ⌜ Roomy plan ⌝ }
+    requires { ⌜ Fits (size .width) (size .height) (layoutOf (inputPicture size (now a0) (now a1) (now a2))) ⌝ }
+    requires { ⌜ Fits (size .width) (size .height) (outputLayout size (length (now b0)) (length (now b1)) (length (now b2))) ⌝ }
+    requires { ⌜ EveryPixel (Takes plan) (inputPicture size (now a0) (now a1) (now a2)) ⌝ }
+    ensures { λ _. ⌜ MappedPlanes (planned plan) (inputPicture size (now (a0 .entry)) (now (a1 .entry)) (now (a2 .entry)))
+        (outputLayout size (length (now (b0 .entry))) (length (now (b1 .entry))) (length (now (b2 .entry))))
+        (now (b0 .exit)) (now (b1 .exit)) (now (b2 .exit)) ⌝ }
+{
+    let width = size.width;
+    let height = size.height;
+    let input_stride = size.input_stride;
+    let output_stride = size.output_stride;
+    if input_stride == width {
+        if output_stride == width {
+            paint_whole(plan, width, height, a0, a1, a2, b0, b1, b2);
+            return;
+        }
+    }
+    paint_rows(plan, size, a0, a1, a2, b0, b1, b2);
 }

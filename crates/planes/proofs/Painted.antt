@@ -1,11 +1,11 @@
 -- Laws of a plane that is written from the front, a gap and a row at a time, by a loop that lends a part of it for each.
 -- `Painted` is the loop's invariant; it begins by `painted-none`, a turn is `painted-more`, and `painted-end` says what the plane then is.
-use mathlib.Core.Path.{_≡_, refl, sym, ap, _∙_}
+use mathlib.Core.Path.{_≡_, refl, sym, ap, _∙_, subst}
 use mathlib.Core.List.{List}
 use mathlib.Core.Bool.{and-false}
 use mathlib.Core.Logic.{⊎-elim}
 use Prim.Native.Nat.{ℕ, _+_, _*_, _-_, _/_, _%_, _≤_, _<_}
-use native.Mathlib.Nat.{mul-add-div-right, mul-add-mod-self-right, div-eq-of-lt, mod-eq-of-lt, add-zero, le-div-iff-mul-le}
+use native.Mathlib.Nat.{mul-add-div-right, mul-add-mod-self-right, div-eq-of-lt, mod-eq-of-lt, mod-lt, add-zero, zero-add, le-div-iff-mul-le, div-lt-iff-lt-mul}
 use native.Mathlib.Omega.{arith}
 use borrow.Author.Tests.{lt-ltb, le-ltb}
 use lib.Dec.{ltb}
@@ -33,6 +33,10 @@ module _ (width height stride : ℕ) (sample : ℕ → ℕ → ℕ) where
   cell-right : (j i : ℕ) → width ≤ i → i < stride → cell width height stride sample (j * stride + i) ≡ 0
   unfolding cell
   cell-right j i b l = rw (row-of stride j i l, column-of stride j i l, le-ltb i width b, and-false (ltb j height))
+
+  cell-whole : stride ≡ width → 0 < width → (k : ℕ) → k < height * width → cell width height stride sample k ≡ sample (k / width) (k % width)
+  unfolding cell
+  cell-whole s p k h = rw (s, lt-ltb (k / width) height (div-lt-iff-lt-mul p .1 h), lt-ltb (k % width) width (mod-lt k p))
 
   cell-below : (k : ℕ) → 0 < stride → height * stride ≤ k → cell width height stride sample k ≡ 0
   unfolding cell
@@ -74,24 +78,43 @@ module _ (width height stride : ℕ) (sample : ℕ → ℕ → ℕ) (n : ℕ) wh
   cleared-length : (y : List ℕ) (done e : ℕ) → length y ≡ n → done ≤ e → e ≤ n → length (cleared y done e) ≡ n
   cleared-length y done e l a b = patched-length y (zeros (e - done)) done e a (omega arith) (length-tab _ _) ∙ l
 
-  -- one row more: y₁ has zeros up to row j, and y₂ has in its part from there a row that was made of parts of the input
+  -- a run of elements from a on: y₁ is the plane as far as there, and y₂ has them in its part, made of parts of the input. No sample follows
+  -- them before row `next`.
+  painted-run : (y₁ ys y₂ : List ℕ) (a m run next : ℕ) (f : ℕ → ℕ) → let element = cell width height stride sample in
+      length y₁ ≡ n → take a y₁ ≡ tab a element → a + run ≤ n → ys ≡ tab m f → m ≡ run → ((i : ℕ) → i < run → f i ≡ element (a + i))
+      → ((k : ℕ) → a + run ≤ k → k < next * stride → element k ≡ 0) → y₂ ≡ patched y₁ a (a + run) ys
+      → Painted width height stride sample n y₂ next (a + run)
+  painted-run y₁ ys y₂ a m run next f n₁ t c e l r z e₂ =
+      let element = cell width height stride sample in
+      let v : a + run - a ≡ run = omega arith in
+      let u : ys ≡ tab (a + run - a) (λ (i : ℕ). element (a + i)) = rw v (e ∙ rw l (tab-same run _ _ r)) in
+      record {
+        len = rw e₂ (patched-length y₁ ys a (a + run) (omega arith) (omega arith) (ap length u ∙ length-tab _ _) ∙ n₁);
+        so-far = rw e₂ (patched-more element y₁ ys a (a + run) (omega arith) (omega arith) t u);
+        gap = z;
+      }
+
+  -- one row more: y₁ has zeros up to row j, and the run is that row
   pub painted-more : (y y₁ ys y₂ : List ℕ) (j done a m : ℕ) (f : ℕ → ℕ) → Painted width height stride sample n y j done
       → width ≤ stride → j < height → done ≤ a → a ≡ j * stride → a + width ≤ n
       → y₁ ≡ cleared y done a → ys ≡ tab m f → m ≡ width → ((i : ℕ) → i < width → f i ≡ sample j i)
       → y₂ ≡ patched y₁ a (a + width) ys → Painted width height stride sample n y₂ (j + 1) (a + width)
   painted-more y y₁ ys y₂ j done a m f d w b k q c e₁ e l r e₂ =
       let element = cell width height stride sample in
-      let n₁ : length y₁ ≡ n = rw e₁ (cleared-length y done a (d .len) k (omega arith)) in
-      let t : take a y₁ ≡ tab a element =
-      rw e₁ (cleared-more y done a (d .len) (d .so-far) k (omega arith) (λ x l o. d .gap x l (omega arith))) in
-      let v : a + width - a ≡ width = omega arith in
-      let u : ys ≡ tab (a + width - a) (λ (i : ℕ). element (a + i)) =
-      rw (v, q) (e ∙ rw l (tab-same width _ _ (λ i o. r i o ∙ sym (cell-in width height stride sample j i b o (omega arith))))) in
-      record {
-        len = rw e₂ (patched-length y₁ ys a (a + width) (omega arith) (omega arith) (ap length u ∙ length-tab _ _) ∙ n₁);
-        so-far = rw e₂ (patched-more element y₁ ys a (a + width) (omega arith) (omega arith) t u);
-        gap = λ x l o. ap element (omega arith) ∙ cell-right width height stride sample j (x - j * stride) (omega arith) (omega arith);
-      }
+      painted-run y₁ ys y₂ a m width (j + 1) f (rw e₁ (cleared-length y done a (d .len) k (omega arith)))
+      (rw e₁ (cleared-more y done a (d .len) (d .so-far) k (omega arith) (λ x l o. d .gap x l (omega arith)))) c e l
+      (λ i o. r i o ∙ sym (cell-in width height stride sample j i b o (omega arith)) ∙ ap (λ x. element (x + i)) (sym q))
+      (λ x l o. ap element (omega arith) ∙ cell-right width height stride sample j (x - j * stride) (omega arith) (omega arith)) e₂
+
+  -- all rows at once, where nothing lies between them
+  pub painted-whole : (y ys y₁ : List ℕ) (all m : ℕ) (f : ℕ → ℕ) → length y ≡ n → stride ≡ width → 0 < width → all ≡ height * width → all ≤ n
+      → ys ≡ tab m f → m ≡ all → ((i : ℕ) → i < all → f i ≡ sample (i / width) (i % width)) → y₁ ≡ patched y 0 (0 + all) ys
+      → Painted width height stride sample n y₁ height all
+  painted-whole y ys y₁ all m f l s p q c e o r e₁ =
+      subst (Painted width height stride sample n y₁ height) (zero-add all)
+      (painted-run y ys y₁ 0 m all height f l (painted-none y l .so-far) (omega arith) e o
+      (λ i h. r i h ∙ sym (cell-whole width height stride sample s p i (omega arith)) ∙ ap (cell width height stride sample) (sym (zero-add i)))
+      (λ x h k. absurd (let w : x < height * width = rw s at k in omega arith)) e₁)
 
   -- the zeros after the last row
   pub painted-end : (y y₁ : List ℕ) (j done : ℕ) → Painted width height stride sample n y j done

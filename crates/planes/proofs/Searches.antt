@@ -3,16 +3,18 @@ use mathlib.Core.Path.{_≡_, refl, sym, ap, _∙_, subst}
 use mathlib.Core.Bool.{Bool, true, false, true≢false}
 use mathlib.Core.List.{List}
 use mathlib.Core.Logic.{_↔_, ⊎-elim, inl, inr}
-use Prim.Native.Nat.{ℕ, zero, suc, _+_, _≤_, _<_, max}
+use Prim.Native.Nat.{ℕ, zero, suc, _+_, _*_, _-_, _≤_, _<_, max}
 use native.Mathlib.Nat.{eq-or-lt-of-le, le-of-suc-le-suc, not-suc-le-zero}
 use native.Mathlib.Omega.{arith}
-use lib.ListN.{getD}
+use lib.ListN.{length, getD, take, drop}
 use Rattle.sample.proofs.Choices.{chose-first, chose-second}
 use Rattle.refusal.specs.Rules.{at}
 use Rattle.refusal.specs.declared.Place.{Place}
 use Rattle.planes.specs.First.{orFound, firstOf, placeIf, placeInRow, firstPlace, IsFirstPlace, largestOf}
 use Rattle.planes.specs.declared.search.Found.{Found}
 use Rattle.planes.specs.declared.search.Found.the-variants.{At, Nothing}
+use Rattle.planes.specs.Plane.{sampleAt}
+use Rattle.planes.proofs.Tables.{part-length, part-sample}
 
 -- ---- any search
 
@@ -171,3 +173,10 @@ none-above s (suc n) k h =
     (λ e. subst (λ j. getD s j 0 ≤ max (largestOf n s) (getD s n 0)) (let q : n ≡ k = omega arith in q) (omega arith))
     (λ l. omega (arith, none-above s n k (omega arith)))
     (eq-or-lt-of-le h)
+
+-- no sample that a part of a plane holds is above the largest of the part
+pub part-fine : (p : List ℕ) (stride j i s e k top m : ℕ) → s + k ≡ j * stride + i → k < e - s → s ≤ e → e ≤ length p
+    → let part = take (e - s) (drop s p) in m ≡ largestOf (length part) part → m ≤ top → sampleAt p stride j i ≤ top
+part-fine p stride j i s e k top m q h a b l w =
+    let part = take (e - s) (drop s p) in
+    omega (arith, none-above part (length part) k (omega (arith, part-length p s e a b)), part-sample p stride j i s e k q h)

@@ -1,16 +1,16 @@
 -- Laws of sizes: the tests of rules 8 and 9, and the facts that they test.
-use mathlib.Core.Path.{_≡_, refl}
+use mathlib.Core.Path.{_≡_, refl, sym, ap, _∙_}
 use mathlib.Core.Bool.{Bool, false}
 use mathlib.Core.List.{List, [], _∷_}
 use mathlib.Core.Logic.{_↔_}
-use Prim.Native.Nat.{ℕ, _*_, _-_, _≤_, _<_}
-use native.Mathlib.Nat.{mul-le-mul, mul-le-mul-right}
+use Prim.Native.Nat.{ℕ, zero, suc, _+_, _*_, _-_, _≤_, _<_}
+use native.Mathlib.Nat.{mul-le-mul, mul-le-mul-right, suc-mul}
 use native.Mathlib.Omega.{arith}
 use borrow.Author.Tests.{ltb-false, le-ltb}
 use lib.Dec.{ltb}
 use Rattle.sample.proofs.Choices.{neither}
 use Rattle.planes.specs.declared.size.Layout.{Layout}
-use Rattle.planes.specs.Sizes.{mostSize, mostStride, outside, strideOutside, sizeOutside, anyShort, layoutShort, someLayout, RowStart, Within, StrideWithin, LongEnough, EveryLayout, SizesWithin, PlanesLong}
+use Rattle.planes.specs.Sizes.{mostSize, mostStride, needed, outside, strideOutside, sizeOutside, anyShort, layoutShort, someLayout, RowStart, Within, StrideWithin, LongEnough, EveryLayout, SizesWithin, PlanesLong}
 
 -- the start of a row of a size that is not refused
 pub row-start : (j height stride : ℕ) → j < height → height ≤ mostSize → stride ≤ mostStride → RowStart j height stride (j * stride)
@@ -20,6 +20,15 @@ row-start j height stride a b e =
       last = mul-le-mul-right {m = j} {n = height - 1} stride (omega arith);
       most = mul-le-mul {n₁ = j} {m₁ = stride} {n₂ = mostSize} {m₂ = mostStride} (omega arith) e;
     }
+
+-- an element inside the picture is an element of the plane
+pub index-inside : (width height stride j i : ℕ) → j < height → i < width → j * stride + i < needed width height stride
+index-inside width height stride j i a b = omega (arith, mul-le-mul-right {m = j} {n = height - 1} stride (omega arith))
+
+-- where the stride is the width, the elements that a plane must have are those of the picture
+pub needed-whole : (width height : ℕ) → 1 ≤ height → needed width height width ≡ height * width
+needed-whole width zero h = absurd (omega arith)
+needed-whole width (suc m) h = ap (λ n. n * width + width) (let e : suc m - 1 ≡ m = omega arith in e) ∙ sym (suc-mul m width)
 
 within-exactly : (n least most : ℕ) → (outside n least most ≡ false) ↔ Within n least most
 unfolding outside

@@ -60,13 +60,13 @@ part-length y a e h k = simp (length-take, length-drop) (omega arith)
 part-at : (y : List ℕ) (a e i : ℕ) → i < e - a → getD (take (e - a) (drop a y)) i 0 ≡ getD y (a + i) 0
 part-at y a e i h = rw (getD-take, getD-drop)
 
--- the part of an input plane that is row j, which starts at s
-pub part-width : (p : List ℕ) (s width : ℕ) → s + width ≤ length p → length (take (s + width - s) (drop s p)) ≡ width
-part-width p s width h = omega (arith, part-length p s (s + width) (omega arith) h)
+-- of an input plane: where element k of the part is the sample of row j and column i, and how wide the part is that n elements from s make
+pub part-sample : (p : List ℕ) (stride j i s e k : ℕ) → s + k ≡ j * stride + i → k < e - s
+    → getD (take (e - s) (drop s p)) k 0 ≡ sampleAt p stride j i
+part-sample p stride j i s e k q h = rw (← q) (part-at p s e k h)
 
-pub part-sample : (p : List ℕ) (stride j s width i : ℕ) → s ≡ j * stride → i < width
-    → getD (take (s + width - s) (drop s p)) i 0 ≡ sampleAt p stride j i
-part-sample p stride j s width i q h = rw (← q) (part-at p s (s + width) i (omega arith))
+pub part-width : (p : List ℕ) (s n : ℕ) → s + n ≤ length p → length (take (s + n - s) (drop s p)) ≡ n
+part-width p s n h = omega (arith, part-length p s (s + n) (omega arith) h)
 
 pub patched-length : (y ys : List ℕ) (a e : ℕ) → a ≤ e → e ≤ length y → length ys ≡ e - a → length (patched y a e ys) ≡ length y
 patched-length y ys a e h k l = simp (length-append, length-take, length-drop) (omega arith)

@@ -1,5 +1,6 @@
 -- Laws of the walk over a picture, row by row and column by column, that ends at the first place where a test holds. `Walked` is the
--- invariant of both loops: that of the columns at row j and column i, that of the rows at row j and column 0. It begins by `walked-none`;
+-- invariant of both loops: that of the columns at row j and column i, that of the rows at row j and column 0. It begins by `walked-none`, or
+-- by `walked-past` has passed the whole picture over;
 -- a turn of the columns is `walked-column`, a row that is through `walked-row`, a row that is passed over as a whole `walked-over`. What
 -- was found is by `walked-all` and `walked-here` what the search finds.
 use mathlib.Core.Path.{_≡_, refl, sym, _∙_, subst}
@@ -30,6 +31,11 @@ module _ {test : ℕ → ℕ → Bool} {width height : ℕ} where
   pub walked-none : Walked test width height Nothing 0 0
   walked-none =
       record { row-most = omega arith; column-most = omega arith; nothing = refl; rows = below-none _; columns = below-none _ }
+
+  -- the whole picture is passed over
+  pub walked-past : ((j i : ℕ) → j < height → i < width → test j i ≡ false) → Walked test width height Nothing height 0
+  walked-past e =
+      record { row-most = omega arith; column-most = omega arith; nothing = refl; rows = λ j h i k. e j i h k; columns = below-none _ }
 
   module _ {found : Found} {j i : ℕ} (w : Walked test width height found j i) where
     pub walked-column : i < width → test j i ≡ false → Walked test width height found j (i + 1)

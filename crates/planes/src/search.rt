@@ -1,10 +1,11 @@
 // Rule 10: the first sample of a picture that is beyond its depth.
 ghost use mathlib.Core.Path.{_≡_};
+ghost use mathlib.Core.Bool.{true};
 ghost use Prim.Native.Nat.{_≤_};
 ghost use lib.ListN.{length};
 ghost use Rattle.planes.specs.Sizes.{Sized, Long, needed};
 ghost use Rattle.planes.specs.Picture.{picture};
-ghost use Rattle.planes.specs.First.{largestOf, firstBad, badSample};
+ghost use Rattle.planes.specs.First.{largestOf, firstBad, badSample, AllFine};
 use crate::size::row_start;
 use refusal::Place;
 use sample::Pixel;
@@ -29,7 +30,22 @@ fn largest(s: &[u16]) -> u16
     m
 }
 
-// The first sample above `top`, by row and then by column. A row whose largest sample is not above it is passed over at once.
+// Yes only if no sample is above `top`. Rows that have nothing between them are looked at as one; of others it says no.
+fn whole_fine(p: &[u16], width: usize, height: usize, stride: usize, top: u16) -> bool
+    requires { ⌜ Sized width height stride ⌝ }
+    requires { ⌜ needed width height stride ≤ length (now p) ⌝ }
+    ensures { λ r. ⌜ (r ≡ true → AllFine (now (p .entry)) width height stride top) ⌝ }
+{
+    if stride != width {
+        return false;
+    }
+    let start = 0;
+    let end = row_start(height - 1, height, stride) + width;
+    largest(&p[start..end]) <= top
+}
+
+// The first sample above `top`, by row and then by column. A plane, or a row, whose largest sample is not above it is passed
+// over at once.
 pub fn first_bad(
     p: &[u16],
     plane: u8,
@@ -42,6 +58,9 @@ pub fn first_bad(
     requires { ⌜ needed width height stride ≤ length (now p) ⌝ }
     ensures { λ r. ⌜ r ≡ firstBad (now (p .entry)) plane width height stride top ⌝ }
 {
+    if whole_fine(p, width, height, stride, top) {
+        return Found::Nothing;
+    }
     let mut found = Found::Nothing;
     'rows: for j in 0..height {
         let a = row_start(j, height, stride);

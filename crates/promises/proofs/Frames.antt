@@ -2,7 +2,6 @@
 use mathlib.Core.Path.{_≡_, refl, ap, _∙_}
 use mathlib.Core.List.{List, [], _∷_}
 use Prim.Native.Nat.{ℕ, zero, suc, _+_, _*_, _-_, _≤_, _<_}
-use native.Mathlib.Nat.{mul-le-mul-right}
 use native.Mathlib.Omega.{arith}
 use lib.ListN.{length, getD}
 use Rattle.refusal.specs.Rules.{NoneApplies}
@@ -11,6 +10,7 @@ use Rattle.planes.specs.Plane.{sampleAt}
 use Rattle.planes.specs.Sizes.{needed, Fits}
 use Rattle.planes.specs.declared.size.Layout.{Layout}
 use Rattle.planes.proofs.PlaneTheorems.{plane-length, plane-inside, plane-outside}
+use Rattle.planes.proofs.SizeLaws.{index-inside}
 use Rattle.planes.proofs.Tables.{length-tab, tab-at}
 use Rattle.setting.specs.Rules.{served}
 use Rattle.setting.specs.declared.Call.the-variants as call
@@ -27,10 +27,6 @@ use Rattle.corkplover.specs.Meaning.{Meaning, meaningOfFrame}
 use Rattle.promises.specs.Frames.{ConvertsFrame, Outside}
 use Rattle.promises.specs.Refusing.{RefusedBy}
 use Rattle.promises.proofs.Refusing.{none-admitted, none-accepted, first-refused, frame-refuses}
-
--- an element inside the picture is an element of the plane
-pub index-inside : (width height stride j i : ℕ) → j < height → i < width → j * stride + i < needed width height stride
-index-inside width height stride j i a b = omega (arith, mul-le-mul-right {m = j} {n = height - 1} stride (omega arith))
 
 module _ (w : Way) (s : Setting) (a : Picture) (b : Layout) where
   -- after any call the plane is as long as before

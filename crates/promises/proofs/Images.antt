@@ -19,6 +19,7 @@ use Rattle.planes.specs.declared.search.Found.{Found}
 use Rattle.planes.specs.declared.search.Found.the-variants as found
 use Rattle.planes.proofs.PlaneTheorems.{plane-length, plane-inside}
 use Rattle.planes.proofs.Searches.{no-place-means, first-place-means}
+use Rattle.planes.proofs.SizeLaws.{index-inside}
 use Rattle.setting.specs.Ready.{Ready}
 use Rattle.setting.specs.Rules.{depths, served}
 use Rattle.setting.specs.declared.Call.the-variants.{ImageCheck}
@@ -35,7 +36,6 @@ use Rattle.image_check.specs.Image.{fails, firstFailing, answerFound, imageBy, 
 use Rattle.corkplover.specs.Meaning.{Meaning, meaningOfImage}
 use Rattle.promises.specs.Images.{SourcePicture, FirstSourceless, ChecksImage}
 use Rattle.promises.proofs.Refusing.{none-admitted, none-accepted, image-refuses}
-use Rattle.promises.proofs.Frames.{index-inside}
 use Rattle.promises.proofs.Pixels.{same-word, source-exactly}
 
 -- what was found, from what the answer means
