@@ -1,3 +1,4 @@
 -- Laws of rows.
 pub mod RowLaws
+pub mod BackLaws
 pub mod RunLaws

@@ -1,11 +1,13 @@
 -- A row of pixels, as three rows of samples, and the row that a conversion makes of it.
 use mathlib.Core.Path.{_≡_}
+use mathlib.Core.Bool.{Bool, true}
 use mathlib.Core.List.{List, [], _∷_}
 use Prim.Native.Nat.{ℕ, _+_, _-_, _<_}
 use lib.ListN.{length, getD, take, drop}
 use Rattle.sample.specs.declared.Pixel.{Pixel}
 use Rattle.planes.specs.Picture.{sampleOf}
 use Rattle.planes.specs.Plane.{tab}
+use Rattle.plan.specs.Source.{comesBack}
 
 -- the part of a plane that has n samples from index a on
 abbrev pub rowPart : List ℕ → ℕ → ℕ → List ℕ
@@ -33,6 +35,10 @@ ConvertedRows f a0 a1 a2 b0 b1 b2 = (b0 ≡ rowOf 0 f a0 a1 a2) × ((b1 ≡ rowO
 -- a fact of every pixel of a row
 abbrev pub EveryOf : (Pixel → Type 0) → List ℕ → List ℕ → List ℕ → Type 0
 EveryOf fact a0 a1 a2 = (i : ℕ) → i < length a0 → fact (pixelIn a0 a1 a2 i)
+
+-- a yes that every pixel of a row comes back, by a conversion back and one forth; a no says nothing
+abbrev pub KnownBack : Bool → (Pixel → Pixel) → (Pixel → Pixel) → List ℕ → List ℕ → List ℕ → Type 0
+KnownBack answer back forth a0 a1 a2 = answer ≡ true → EveryOf (λ (p : Pixel). comesBack back forth p ≡ true) a0 a1 a2
 
 -- three rows to read and three to write, all of one length
 pub record OneWidth (a0 a1 a2 b0 b1 b2 : List ℕ) : Type 0 where

@@ -14,7 +14,7 @@ use sample::Depths;
 use sample::Pixel;
 
 // The pixel at index i of three rows.
-fn pixel_in(a0: &[u16], a1: &[u16], a2: &[u16], i: usize) -> Pixel
+pub fn pixel_in(a0: &[u16], a1: &[u16], a2: &[u16], i: usize) -> Pixel
     requires { ⌜ i < length (now a0) ⌝ }
     requires { ⌜ i < length (now a1) ⌝ }
     requires { ⌜ i < length (now a2) ⌝ }

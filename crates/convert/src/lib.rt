@@ -1,4 +1,5 @@
 // Pixels and rows of pixels, converted by a plan.
+pub mod back;
 mod each;
 pub mod row;
 

@@ -1,4 +1,6 @@
 // The image check: does a picture of Y, Cb, Cr come from one of R, G, B?
+mod passing;
+
 ghost use mathlib.Core.Path.{_≡_};
 ghost use Rattle.planes.specs.Picture.{picture, layoutOf, EveryPixel};
 ghost use Rattle.planes.specs.Sizes.{Fits};
@@ -24,7 +26,8 @@ pub enum ImageAnswer {
     Refused(Refusal),
 }
 
-// The first pixel that does not come back the same, by row and then by column.
+// The first pixel that does not come back the same, by row and then by column. A picture, or a row, all of whose pixels do is passed
+// over at once.
 fn first_sourceless(
     back: Plan,
     forth: Plan,
@@ -41,9 +44,15 @@ fn first_sourceless(
     requires { ⌜ EveryPixel (λ p. Takes forth (planned back p)) (picture width height stride (now a0) (now a1) (now a2)) ⌝ }
     ensures { λ r. ⌜ r ≡ firstFailing (comesBack (planned back) (planned forth)) (picture width height stride (now (a0 .entry)) (now (a1 .entry)) (now (a2 .entry))) ⌝ }
 {
+    if passing::whole_comes_back(back, forth, width, height, stride, a0, a1, a2) {
+        return Found::Nothing;
+    }
     let mut found = Found::Nothing;
     'rows: for j in 0..height {
         let a = row_start(j, height, stride);
+        if passing::run_comes_back(back, forth, a, width, a0, a1, a2) {
+            continue;
+        }
         for i in 0..width {
             let k = a + i;
             let p = Pixel {

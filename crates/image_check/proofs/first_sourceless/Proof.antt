@@ -1,11 +1,15 @@
--- `image_check::first_sourceless` meets its contract: it walks over the picture.
-use Prim.Native.Nat.{_-_}
+-- `image_check::first_sourceless` meets its contract: it walks over the picture, and passes all of it or a row over where every pixel
+-- there comes back.
+use mathlib.Core.Path.{_≡_, ap}
+use mathlib.Core.Bool.{true, not}
+use Prim.Native.Nat.{_+_, _-_}
 use native.Mathlib.Omega.{arith}
 use borrow.Author.Needs.{needs}
 use Rattle.planes.specs.Picture.{picture}
-use Rattle.planes.proofs.Walks.{Walked, walked-none, walked-column, walked-row, walked-all, walked-here}
-use Rattle.plan.specs.Plan.{planned}
+use Rattle.planes.proofs.Walks.{Walked, walked-none, walked-past, walked-column, walked-row, walked-over, walked-all, walked-here}
+use Rattle.plan.specs.Plan.{planned, Takes}
 use Rattle.plan.specs.Source.{comesBack}
+use Rattle.convert.proofs.RunLaws.{row-run, run-of-every, pixel-of-part}
 use Rattle.image_check.specs.Image.{fails}
 use Rattle.image_check.proofs.first_sourceless.Statement.{statement}
 use Rattle.image_check.proofs.first_sourceless.Tie as tie
@@ -27,27 +31,51 @@ abbrev μ-rows : tie.MeasureT-rows
 -- the pixel that is read is the one at row j and column i
 comes-back-requires : tie.Need-comes-back-requires Inv-loop μ-loop Inv-rows μ-rows
 comes-back-requires c κs =
-    let p = c .before .before .before .before .before .before .before .before .before .before .before .pre in
-    let starts = c .before .before .before .before .before .row-start .ensures .is in (
+    let p = c .before .before .before .before .before .before .before .before .before .before .before .before .before .before .before .pre in
+    let starts = c .before .before .before .before .before .before .before .row-start .ensures .is in (
       p .0 .0,
       (p .0 .1, (rw starts (p .1 .1 .0 _ _ (omega arith) (omega arith)), rw starts (p .1 .1 .1 _ _ (omega arith) (omega arith)))),
     )
 
+-- a picture or a row that is passed over
+returns : tie.Need-returns Inv-loop μ-loop Inv-rows μ-rows
+returns c =
+    walked-all (walked-past (λ j i h k. ap not (c .before .whole-comes-back .ensures (c .if1 .taken) j i h k))) 0 (omega arith)
+
+run-comes-back-requires : tie.Need-run-comes-back-requires Inv-loop μ-loop Inv-rows μ-rows
+run-comes-back-requires c κs =
+    let s = c .before .before .before .before .before .before .before .before in
+    let start = c .row-start .ensures in
+    let long = s .pre .1 .0 .long in
+    (s .pre .0, (omega (arith, start .last), run-of-every (row-run _ (omega arith) (start .is)) (λ p. Takes (s .args .forth) (planned (s .args .back) p)) (s .pre .1 .1 .1) (omega (arith, start .last))))
+
+rows-again : tie.Need-rows-again Inv-loop μ-loop Inv-rows μ-rows
+rows-again c =
+    let s = c .before .before .before .before .before .before .before .before .before .before in
+    let a = picture (s .args .width) (s .args .height) (s .args .stride) (s .args .a0 .now) (s .args .a1 .now) (s .args .a2 .now) in
+    let start = c .before .before .row-start in
+    let long = s .pre .1 .0 .long in
+    walked-over (c .before .before .before .before .rows .inv) (omega arith)
+    (λ i h. ap not
+    (pixel-of-part a (start .result) (a .width) (λ p. comesBack (planned (s .args .back)) (planned (s .args .forth)) p ≡ true) (omega (arith, start .ensures .last))
+    (c .before .run-comes-back .ensures (c .if2 .taken)) i _ i (ap (λ n. n + i) (start .ensures .is)) h))
+
 loop-again : tie.Need-loop-again Inv-loop μ-loop Inv-rows μ-rows
 loop-again c =
-    let starts = c .before .before .before .before .before .before .before .row-start .ensures .is in
-    walked-column (c .before .before .before .before .before .before .loop .inv) (omega arith) (rw (← starts, ← c .before .comes-back .ensures) (c .if1 .left))
+    let starts = c .before .before .before .before .before .before .before .before .before .row-start .ensures .is in
+    walked-column (c .before .before .before .before .before .before .loop .inv) (omega arith) (rw (← starts, ← c .before .comes-back .ensures) (c .if3 .left))
 
-returns-2 : tie.Need-returns-2 Inv-loop μ-loop Inv-rows μ-rows
-returns-2 c =
-    let starts = c .before .before .before .before .before .before .before .row-start .ensures .is in
-    walked-here (c .before .before .before .before .before .before .loop .inv) 0 (omega arith) (omega arith) (rw (← starts, ← c .before .comes-back .ensures) (c .if1 .taken))
+returns-3 : tie.Need-returns-3 Inv-loop μ-loop Inv-rows μ-rows
+returns-3 c =
+    let starts = c .before .before .before .before .before .before .before .before .before .row-start .ensures .is in
+    walked-here (c .before .before .before .before .before .before .loop .inv) 0 (omega arith) (omega arith) (rw (← starts, ← c .before .comes-back .ensures) (c .if3 .taken))
 
 pub first-sourceless-spec : {M : Type 1} → statement M
 first-sourceless-spec =
     tie.close
-    (tie.spec Inv-loop μ-loop Inv-rows μ-rows (λ c. walked-none) (λ c κs. search needs) (λ c. search needs)
+    (tie.spec Inv-loop μ-loop Inv-rows μ-rows (λ c κs. search needs) returns (λ c. walked-none) (λ c κs. search needs)
+    run-comes-back-requires (λ c. search needs) (λ c. search needs) rows-again (λ c. search needs) (λ c. search needs)
     (λ c. search needs) (λ c. search needs) (λ c. search needs) (λ c. search needs) (λ c. search needs) (λ c. search needs)
-    (λ c. search needs) comes-back-requires (λ c. search needs) (λ c. search needs) (λ c. search needs) (λ c. search needs)
+    comes-back-requires (λ c. search needs) (λ c. search needs) (λ c. search needs) (λ c. search needs)
     loop-again (λ c. search needs) (λ c. search needs) (λ c. walked-row (c .before .loop .inv) (omega arith) (omega arith))
-    (λ c. walked-all (c .before .rows .inv) 0 (omega arith)) returns-2)
+    (λ c. walked-all (c .before .rows .inv) 0 (omega arith)) returns-3)
