@@ -1,150 +1,146 @@
-//! Times the box and the plain converter on one frame, in turns. Prints the median time of each and the median of their ratios, turn by
-//! turn; on code 1 also the converter for that setting alone. `tools/measure-speed` builds and runs it.
+//! Times the box and others on frames of 1,920 by 1,080 and of other shapes, everything in turns with the yardstick, and prints one table
+//! in Markdown. `tools/measure-speed` builds and runs it.
 
+#![allow(unknown_lints, unexpected_cfgs)] // the script sets cfg(zimg) where zimg is installed
+
+mod agree;
+mod bench;
+mod clock;
+mod converters;
 mod frame;
+mod jobs;
 mod literal;
 mod luma;
+mod pictures;
+mod rivals;
 mod setting;
+mod table;
+mod yardstick;
 
-use corkplover as cork;
+use bench::{at_most, at_most_of, Bench, LARGE};
+use converters::{by_biased_yardstick, by_yardstick, check_by_box};
+use jobs::Ticket;
+use pictures::Shape;
 use setting::{Setting, Way};
+use std::rc::Rc;
 
-const WIDTH: usize = 1920;
-const HEIGHT: usize = 1080;
-const LENGTH: usize = WIDTH * HEIGHT;
+const CODE_1: Setting =
+    Setting { primaries: 1, transfer: 1, matrix: 1, rgb_depth: 8, y_depth: 8, c_depth: 8, rgb_full: true, ycc_full: true };
+const LOSSLESS: Setting = Setting { matrix: 8, c_depth: 9, ..CODE_1 };
+const WAYS: [(Way, &str); 2] = [(Way::Forward, "forward"), (Way::Reverse, "reverse")];
 
-type Planes = [Vec<u16>; 3];
-
-/// C's struct timespec on 64-bit Linux.
-#[repr(C)]
-struct Time {
-    seconds: i64,
-    nanoseconds: i64,
-}
-
-extern "C" {
-    fn clock_gettime(clock: i32, time: *mut Time) -> i32;
-}
-
-/// Seconds that this thread has spent on the processor: other programs on the machine don't count.
-fn processor_time() -> f64 {
-    const OF_THIS_THREAD: i32 = 3;
-    let mut time = Time { seconds: 0, nanoseconds: 0 };
-    let failed = unsafe { clock_gettime(OF_THIS_THREAD, &mut time) };
-    assert!(failed == 0, "no clock");
-    time.seconds as f64 + time.nanoseconds as f64 * 1e-9
-}
-
-fn planes() -> Planes {
-    [(); 3].map(|_| vec![0; LENGTH])
-}
-
-fn clear(planes: &mut Planes) {
-    planes.iter_mut().for_each(|plane| plane.fill(0));
-}
-
-/// Slow gradients with some noise, 8 bits a sample.
-fn picture() -> Planes {
-    let mut state = 1u64;
-    let mut noise = || {
-        state = state.wrapping_mul(6364136223846793005).wrapping_add(1442695040888963407);
-        (state >> 60) as usize
-    };
-    let mut rgb = planes();
-    for i in 0..LENGTH {
-        let (row, column) = (i / WIDTH, i % WIDTH);
-        rgb[0][i] = (column * 240 / WIDTH + noise()) as u16;
-        rgb[1][i] = (row * 240 / HEIGHT + noise()) as u16;
-        rgb[2][i] = ((row + column) * 240 / (WIDTH + HEIGHT) + noise()) as u16;
-    }
-    rgb
-}
-
-fn for_box(s: &Setting) -> cork::Setting {
-    cork::Setting {
-        primaries: s.primaries,
-        transfer: s.transfer,
-        matrix: s.matrix,
-        rgb_depth: s.rgb_depth,
-        y_depth: s.y_depth,
-        c_depth: s.c_depth,
-        rgb_full: s.rgb_full,
-        ycc_full: s.ycc_full,
+/// The yardstick, which is the first job, and what else is measured for information.
+fn references(bench: &mut Bench) {
+    let source = bench.random(LARGE, [8; 3]);
+    let yardstick = bench.job(LARGE, source.clone(), |shape: &Shape, from: [&[u16]; 3], to: [&mut [u16]; 3]| {
+        by_yardstick(shape, from, to).expect("an accepted frame")
+    });
+    bench.row("the yardstick", yardstick, None);
+    let biased = bench.job(LARGE, source.clone(), |shape: &Shape, from: [&[u16]; 3], to: [&mut [u16]; 3]| {
+        by_biased_yardstick(shape, from, to).expect("an accepted frame")
+    });
+    bench.row("the yardstick, biased", biased, None);
+    let copied = bench.job(LARGE, source.clone(), |_: &Shape, from: [&[u16]; 3], to: [&mut [u16]; 3]| {
+        from.iter().zip(to).for_each(|(from, to)| to.copy_from_slice(from))
+    });
+    bench.row("three planes copied", copied, None);
+    for (way, name) in WAYS {
+        let plain = bench.plain_job(CODE_1, way, LARGE, source.clone());
+        bench.row(&format!("plain Rust for every setting, code 1, {}", name), plain, None);
+        let convert = if way == Way::Forward { literal::forward } else { literal::reverse };
+        let literal = bench.job(LARGE, source.clone(), move |_: &Shape, from: [&[u16]; 3], to: [&mut [u16]; 3]| {
+            let [x, y, z] = to;
+            convert(from, x, y, z)
+        });
+        bench.row(&format!("literal divisors in 64 bits, nothing tested, {}", name), literal, None);
     }
 }
 
-/// Seconds that the box takes from cleared planes.
-fn time_box(s: &Setting, way: Way, [a, b, c]: &Planes, to: &mut Planes) -> f64 {
-    clear(to);
-    let [x, y, z] = to;
-    let s = for_box(s);
-    let source = cork::Source { planes: [a, b, c], stride: WIDTH };
-    let mut output = cork::Output { planes: [x, y, z], stride: WIDTH };
-    let convert = if way == Way::Forward { cork::forward_frame } else { cork::reverse_frame };
-    let start = processor_time();
-    convert(&s, WIDTH, HEIGHT, source, &mut output).expect("an accepted frame");
-    processor_time() - start
-}
-
-/// The same of the plain converter.
-fn time_plain(s: &Setting, way: Way, [a, b, c]: &Planes, to: &mut Planes) -> f64 {
-    clear(to);
-    let [x, y, z] = to;
-    let source = frame::Source { planes: [a, b, c], stride: WIDTH };
-    let mut output = frame::Output { planes: [x, y, z], stride: WIDTH };
-    let start = processor_time();
-    frame::convert(s, way, WIDTH, HEIGHT, &source, &mut output).expect("an accepted frame");
-    processor_time() - start
-}
-
-/// The same of the converter for code 1 alone.
-fn time_literal(way: Way, [a, b, c]: &Planes, to: &mut Planes) -> f64 {
-    clear(to);
-    let [x, y, z] = to;
-    let convert = if way == Way::Forward { literal::forward } else { literal::reverse };
-    let start = processor_time();
-    convert([a, b, c], x, y, z);
-    processor_time() - start
-}
-
-fn median(mut times: Vec<f64>) -> f64 {
-    times.sort_by(f64::total_cmp);
-    times[times.len() / 2]
-}
-
-/// Converts `from` so often and prints the line; what came out is the other way's source.
-fn measure(name: &str, s: &Setting, way: Way, from: &Planes, repetitions: usize) -> Planes {
-    let (mut ours, mut plain, mut alone) = (planes(), planes(), planes());
-    let (mut our_times, mut plain_times, mut alone_times) = (Vec::new(), Vec::new(), Vec::new());
-    for _ in 0..repetitions {
-        our_times.push(time_box(s, way, from, &mut ours));
-        plain_times.push(time_plain(s, way, from, &mut plain));
-        if s.matrix == 1 {
-            alone_times.push(time_literal(way, from, &mut alone));
+/// The luma matrices at each depth, both ways, with each pair of ranges. It gives the large frame that the shapes are compared with.
+fn luma_matrices(bench: &mut Bench) -> Ticket {
+    let mut frames = Vec::new();
+    for depth in [8, 10, 12] {
+        for way in WAYS {
+            for (rgb_full, ycc_full) in [(true, true), (true, false), (false, true), (false, false)] {
+                let s = Setting { rgb_depth: depth, y_depth: depth, c_depth: depth, rgb_full, ycc_full, ..CODE_1 };
+                frames.push(luma_row(bench, s, way));
+            }
         }
     }
-    assert!(ours == plain, "the two converters differ");
-    let ratios = our_times.iter().zip(&plain_times).map(|(ours, plain)| ours / plain).collect();
-    let (box_took, plain_took) = (median(our_times) * 1e3, median(plain_times) * 1e3);
-    print!("{:<25} box {:6.2} ms   plain Rust {:6.2} ms   ratio {:.2}", name, box_took, plain_took, median(ratios));
-    if s.matrix == 1 {
-        assert!(ours == alone, "the converter for code 1 differs");
-        print!("   code 1 alone {:6.2} ms", median(alone_times) * 1e3);
+    frames[0]
+}
+
+/// A row that shows code 1, with a goal that is held against the slowest of the six codes.
+fn luma_row(bench: &mut Bench, s: Setting, (way, way_name): (Way, &str)) -> Ticket {
+    let goal = match (s.rgb_depth, way, s.rgb_full && s.ycc_full) {
+        (8, Way::Forward, true) => 0.6,
+        (8, Way::Forward, false) => 1.2,
+        _ => 2.8,
+    };
+    let range = |full: bool| if full { "full" } else { "narrow" };
+    let (rgb, ycc) = (range(s.rgb_full), range(s.ycc_full));
+    let jobs = six_codes(bench, s, way);
+    let code_1 = jobs[0].1;
+    bench.row_of_many(&format!("code 1, {} bits, {}, RGB {}, YCbCr {}", s.rgb_depth, way_name, rgb, ycc), jobs, at_most(goal));
+    code_1
+}
+
+fn six_codes(bench: &mut Bench, s: Setting, way: Way) -> Vec<(String, Ticket)> {
+    let source = bench.random(LARGE, [s.rgb_depth; 3]);
+    let mut one = |matrix| (format!("code {}", matrix), bench.box_job(Setting { matrix, ..s }, way, LARGE, source.clone()));
+    [1, 4, 5, 6, 7, 9].map(&mut one).to_vec()
+}
+
+/// Code 0 and YCgCo. It gives the lossless forward frame.
+fn other_matrices(bench: &mut Bench) -> Ticket {
+    let source = bench.random(LARGE, [8; 3]);
+    for (matrix, called) in [(0, "code 0"), (8, "lossy code 8")] {
+        for (way, way_name) in WAYS {
+            let ticket = bench.box_job(Setting { matrix, ..CODE_1 }, way, LARGE, source.clone());
+            bench.row(&format!("{}, 8 bits, {}", called, way_name), ticket, None);
+        }
     }
-    println!();
-    ours
+    let ycc = Rc::new(bench.answer(&LOSSLESS, Way::Forward, LARGE, &source));
+    let forward = bench.box_job(LOSSLESS, Way::Forward, LARGE, source);
+    bench.row("lossless code 8, Y 8, C 9, forward", forward, None);
+    let reverse = bench.box_job(LOSSLESS, Way::Reverse, LARGE, ycc.clone());
+    bench.row("lossless code 8, Y 8, C 9, reverse", reverse, at_most_of(1.5, forward, "forward"));
+    let nothing_written = Shape { output_stride: 0, ..LARGE };
+    let check = bench.job(nothing_written, ycc, |shape: &Shape, from: [&[u16]; 3], _: [&mut [u16]; 3]| {
+        assert!(check_by_box(&LOSSLESS, shape, from), "every pixel has a source")
+    });
+    bench.row("lossless code 8, Y 8, C 9, image check", check, at_most_of(4.0, forward, "forward"));
+    forward
+}
+
+/// Frames of other shapes, each held against the large one at its setting.
+fn shapes(bench: &mut Bench, called: &str, s: Setting, large: Ticket) {
+    let all = [
+        ("1 by 8,192", Shape::packed(1, 8192)),
+        ("8,192 by 1", Shape::packed(8192, 1)),
+        ("1,920 by 1,080, strides 2,048", Shape { source_stride: 2048, output_stride: 2048, ..LARGE }),
+        ("1,920 by 1,080, output stride 3,840", Shape { output_stride: 3840, ..LARGE }),
+        ("1,920 by 1,080, source stride 16,384", Shape { source_stride: 16_384, ..LARGE }),
+    ];
+    for (name, shape) in all {
+        let source = bench.random(shape, [8; 3]);
+        let ticket = bench.box_job(s, Way::Forward, shape, source);
+        bench.row(&format!("{}, {}", called, name), ticket, at_most_of(2.0, large, "the frame"));
+    }
 }
 
 fn main() {
-    let repetitions = std::env::args().nth(1).map_or(15, |word| word.parse().expect("a number of repetitions"));
-    let rgb = picture();
-    let code_1 =
-        Setting { primaries: 1, transfer: 1, matrix: 1, rgb_depth: 8, y_depth: 8, c_depth: 8, rgb_full: true, ycc_full: true };
-    let code_8 = Setting { matrix: 8, c_depth: 9, ..code_1 };
-    println!("{} by {}, {} repetitions in turns, medians of the time on the processor", WIDTH, HEIGHT, repetitions);
-    let ycc = measure("code 1, 8 bits, forward", &code_1, Way::Forward, &rgb, repetitions);
-    measure("code 1, 8 bits, reverse", &code_1, Way::Reverse, &ycc, repetitions);
-    let ycc = measure("lossless code 8, forward", &code_8, Way::Forward, &rgb, repetitions);
-    let back = measure("lossless code 8, reverse", &code_8, Way::Reverse, &ycc, repetitions);
-    assert!(back == rgb, "the lossless picture did not come back");
+    let turns = std::env::args().nth(1).map_or(41, |word| word.parse().expect("a number of turns"));
+    agree::yardstick_agrees(&CODE_1, LARGE);
+    let mut bench = Bench::default();
+    references(&mut bench);
+    let remarks = rivals::add(&mut bench, &CODE_1);
+    let code_1 = luma_matrices(&mut bench);
+    let lossless = other_matrices(&mut bench);
+    shapes(&mut bench, "code 1, forward", CODE_1, code_1);
+    shapes(&mut bench, "lossless, forward", LOSSLESS, lossless);
+    bench.run(turns);
+    bench.print();
+    println!();
+    remarks.iter().for_each(|line| println!("{}", line));
 }
