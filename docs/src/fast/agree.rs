@@ -31,10 +31,10 @@ fn source(shape: &Shape) -> Planes {
 
 fn assert_same(s: &Setting, shape: &Shape, source: &Planes, output_length: usize) {
     let [mut ours, mut plain, mut biased] = [(); 3].map(|_| pictures::filled(output_length));
-    let from = pictures::borrowed(source);
-    let answer = by_box(s, Way::Forward, shape, from, pictures::lent(&mut ours));
-    assert_eq!(answer, by_yardstick(shape, from, pictures::lent(&mut plain)), "the yardstick's answer");
-    assert_eq!(answer, by_biased_yardstick(shape, from, pictures::lent(&mut biased)), "the biased yardstick's answer");
+    let from = pictures::to_read(source);
+    let answer = by_box(s, Way::Forward, shape, from, pictures::to_write(&mut ours));
+    assert_eq!(answer, by_yardstick(shape, from, pictures::to_write(&mut plain)), "the yardstick's answer");
+    assert_eq!(answer, by_biased_yardstick(shape, from, pictures::to_write(&mut biased)), "the biased yardstick's answer");
     assert!(ours == plain, "the yardstick's planes");
     assert!(ours == biased, "the biased yardstick's planes");
 }

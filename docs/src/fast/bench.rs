@@ -2,7 +2,7 @@
 
 use crate::converters::{by_box, by_plain};
 use crate::jobs::{Job, Jobs, Ticket, Work, YARDSTICK};
-use crate::pictures::{self, Planes, Shape};
+use crate::pictures::{self, Planes, Read, Shape, Write};
 use crate::setting::{Setting, Way};
 use crate::table::{self, Goal, Row};
 use std::rc::Rc;
@@ -20,8 +20,10 @@ impl Bench {
     /// Random samples for the sources of a shape.
     pub fn random(&mut self, shape: Shape, depths: [u8; 3]) -> Rc<Planes> {
         let length = shape.source_length();
-        let known = self.pictures.iter().find(|(l, d, _)| (*l, *d) == (length, depths));
-        let planes = known.map_or_else(|| Rc::new(pictures::random(length, depths)), |(_, _, planes)| Rc::clone(planes));
+        if let Some((_, _, planes)) = self.pictures.iter().find(|(l, d, _)| (*l, *d) == (length, depths)) {
+            return Rc::clone(planes);
+        }
+        let planes = Rc::new(pictures::random(length, depths));
         self.pictures.push((length, depths, Rc::clone(&planes)));
         planes
     }
@@ -30,28 +32,30 @@ impl Bench {
         self.jobs.add(Job { shape, source, work: Box::new(work) })
     }
 
-    /// The box at a setting. Its frame is held to the plain converter's, so that no wrong one is measured.
-    pub fn box_job(&mut self, s: Setting, way: Way, shape: Shape, source: Rc<Planes>) -> Ticket {
+    /// A job at a setting. Its frame is held to the plain converter's, so that no wrong one is measured.
+    pub fn job_at(&mut self, s: Setting, way: Way, shape: Shape, source: Rc<Planes>, work: impl Work + 'static) -> Ticket {
         let expected = self.answer(&s, way, shape, &source);
-        let work = move |shape: &Shape, from: [&[u16]; 3], to: [&mut [u16]; 3]| {
-            by_box(&s, way, shape, from, to).expect("a frame that the box accepts");
-        };
         let ticket = self.job(shape, source, work);
-        assert!(self.jobs.result(ticket) == expected, "the box and the plain converter differ at {:?}, {:?}", s, way);
+        assert!(self.jobs.result(ticket) == expected, "a frame differs from the plain converter's: {:?}, {:?}", s, way);
         ticket
     }
 
+    pub fn box_job(&mut self, s: Setting, way: Way, shape: Shape, source: Rc<Planes>) -> Ticket {
+        self.job_at(s, way, shape, source, move |shape: &Shape, from: Read, to: Write| {
+            by_box(&s, way, shape, from, to).expect("a frame that the box accepts")
+        })
+    }
+
     pub fn plain_job(&mut self, s: Setting, way: Way, shape: Shape, source: Rc<Planes>) -> Ticket {
-        let work = move |shape: &Shape, from: [&[u16]; 3], to: [&mut [u16]; 3]| {
-            by_plain(&s, way, shape, from, to).expect("a frame that the plain converter accepts");
-        };
-        self.job(shape, source, work)
+        self.job_at(s, way, shape, source, move |shape: &Shape, from: Read, to: Write| {
+            by_plain(&s, way, shape, from, to).expect("a frame that the plain converter accepts")
+        })
     }
 
     /// The plain converter's frame.
     pub fn answer(&self, s: &Setting, way: Way, shape: Shape, source: &Planes) -> Planes {
         let mut planes = pictures::filled(shape.output_length());
-        by_plain(s, way, &shape, pictures::borrowed(source), pictures::lent(&mut planes)).expect("a frame that is accepted");
+        by_plain(s, way, &shape, pictures::to_read(source), pictures::to_write(&mut planes)).expect("a frame that is accepted");
         planes
     }
 

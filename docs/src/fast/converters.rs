@@ -1,7 +1,7 @@
 //! The box and those that it is compared with, under one signature.
 
 use crate::frame::{self, Output, Source};
-use crate::pictures::Shape;
+use crate::pictures::{Read, Shape, Write};
 use crate::setting::{Refusal, Setting, Way};
 use crate::yardstick;
 use corkplover as cork;
@@ -26,7 +26,7 @@ fn refusal(r: cork::Refusal) -> Refusal {
     }
 }
 
-pub fn by_box(s: &Setting, way: Way, shape: &Shape, from: [&[u16]; 3], to: [&mut [u16]; 3]) -> Result<(), Refusal> {
+pub fn by_box(s: &Setting, way: Way, shape: &Shape, from: Read, to: Write) -> Result<(), Refusal> {
     let source = cork::Source { planes: from, stride: shape.source_stride };
     let mut output = cork::Output { planes: to, stride: shape.output_stride };
     let convert = if way == Way::Forward { cork::forward_frame } else { cork::reverse_frame };
@@ -34,25 +34,25 @@ pub fn by_box(s: &Setting, way: Way, shape: &Shape, from: [&[u16]; 3], to: [&mut
 }
 
 /// The box's image check: whether every pixel has a source.
-pub fn check_by_box(s: &Setting, shape: &Shape, planes: [&[u16]; 3]) -> bool {
+pub fn check_by_box(s: &Setting, shape: &Shape, planes: Read) -> bool {
     let source = cork::Source { planes, stride: shape.source_stride };
     cork::image_check(&for_box(s), shape.width, shape.height, source) == Ok(None)
 }
 
 /// The plain converter, which serves every setting.
-pub fn by_plain(s: &Setting, way: Way, shape: &Shape, from: [&[u16]; 3], to: [&mut [u16]; 3]) -> Result<(), Refusal> {
+pub fn by_plain(s: &Setting, way: Way, shape: &Shape, from: Read, to: Write) -> Result<(), Refusal> {
     let source = Source { planes: from, stride: shape.source_stride };
     let mut output = Output { planes: to, stride: shape.output_stride };
     frame::convert(s, way, shape.width, shape.height, &source, &mut output)
 }
 
-pub fn by_yardstick(shape: &Shape, from: [&[u16]; 3], to: [&mut [u16]; 3]) -> Result<(), Refusal> {
+pub fn by_yardstick(shape: &Shape, from: Read, to: Write) -> Result<(), Refusal> {
     let source = Source { planes: from, stride: shape.source_stride };
     let mut output = Output { planes: to, stride: shape.output_stride };
     yardstick::convert(shape.width, shape.height, &source, &mut output)
 }
 
-pub fn by_biased_yardstick(shape: &Shape, from: [&[u16]; 3], to: [&mut [u16]; 3]) -> Result<(), Refusal> {
+pub fn by_biased_yardstick(shape: &Shape, from: Read, to: Write) -> Result<(), Refusal> {
     let source = Source { planes: from, stride: shape.source_stride };
     let mut output = Output { planes: to, stride: shape.output_stride };
     yardstick::convert_biased(shape.width, shape.height, &source, &mut output)

@@ -17,7 +17,7 @@ use setting::{Setting, Way};
 #[no_mangle]
 #[inline(never)]
 pub fn yardstick_frame(shape: &Shape, from: &Planes, to: &mut Planes) {
-    by_yardstick(shape, pictures::borrowed(from), pictures::lent(to)).expect("an accepted frame");
+    by_yardstick(shape, pictures::to_read(from), pictures::to_write(to)).expect("an accepted frame");
 }
 
 fn main() {
@@ -30,7 +30,7 @@ fn main() {
     let source = pictures::random(shape.source_length(), [8; 3]);
     let mut output = pictures::filled(shape.output_length());
     let convert = |s, way, to: &mut Planes| {
-        by_box(s, way, &shape, pictures::borrowed(&source), pictures::lent(to)).expect("an accepted frame");
+        by_box(s, way, &shape, pictures::to_read(&source), pictures::to_write(to)).expect("an accepted frame");
     };
     match words[0].as_str() {
         "yardstick" => yardstick_frame(&shape, &source, &mut output),
@@ -40,7 +40,7 @@ fn main() {
         "lossless-reverse" => convert(&lossless, Way::Reverse, &mut output),
         "image-check" => {
             convert(&lossless, Way::Forward, &mut output);
-            assert!(check_by_box(&lossless, &shape, pictures::borrowed(&output)), "every pixel has a source");
+            assert!(check_by_box(&lossless, &shape, pictures::to_read(&output)), "every pixel has a source");
         }
         other => panic!("{} is not counted", other),
     }

@@ -1,18 +1,18 @@
 //! What is timed: jobs that take turns with the yardstick, of each of which the quickest turn counts.
 
 use crate::clock::processor_time;
-use crate::pictures::{self, Planes, Shape};
+use crate::pictures::{self, Planes, Read, Shape, Write};
 use std::rc::Rc;
 
 /// What is done with a frame: it reads the source planes and writes the output planes.
 pub trait Work {
     /// Before each turn, outside of the time.
     fn prepare(&mut self) {}
-    fn convert(&mut self, shape: &Shape, from: [&[u16]; 3], to: [&mut [u16]; 3]);
+    fn convert(&mut self, shape: &Shape, from: Read, to: Write);
 }
 
-impl<F: FnMut(&Shape, [&[u16]; 3], [&mut [u16]; 3])> Work for F {
-    fn convert(&mut self, shape: &Shape, from: [&[u16]; 3], to: [&mut [u16]; 3]) {
+impl<F: FnMut(&Shape, Read, Write)> Work for F {
+    fn convert(&mut self, shape: &Shape, from: Read, to: Write) {
         self(shape, from, to)
     }
 }
@@ -45,6 +45,7 @@ pub struct Jobs {
 pub const YARDSTICK: Ticket = Ticket(0);
 /// Seconds from which a frame is dear.
 const DEAR: f64 = 5e-3;
+const TURNS_OF_CHEAP: usize = 5;
 const PIXELS_IN_A_TURN: usize = 1 << 18;
 
 impl Jobs {
@@ -58,11 +59,11 @@ impl Jobs {
     pub fn result(&mut self, ticket: Ticket) -> Planes {
         let job = &mut self.list[ticket.0].job;
         let mut planes = pictures::filled(job.shape.output_length());
-        job.work.convert(&job.shape, pictures::borrowed(&job.source), pictures::lent(&mut planes));
+        job.work.convert(&job.shape, pictures::to_read(&job.source), pictures::to_write(&mut planes));
         planes
     }
 
-    /// Every job so many times, cheap ones five times as often, and the yardstick once more before every tenth.
+    /// Every job so many times, cheap ones more often, and the yardstick once more before every tenth.
     pub fn take_turns(&mut self, turns: usize) {
         for _ in 0..turns {
             for number in 0..self.list.len() {
@@ -71,10 +72,20 @@ impl Jobs {
                 }
                 self.take_turn(Ticket(number));
                 if self.list[number].quickest < DEAR {
-                    (0..4).for_each(|_| self.take_turn(Ticket(number)));
+                    (1..TURNS_OF_CHEAP).for_each(|_| self.take_turn(Ticket(number)));
                 }
             }
         }
+    }
+
+    /// What `take_turns` does, in words.
+    pub fn rule(turns: usize) -> String {
+        format!(
+            "the quickest of {} turns, and of {} where a frame takes less than {} ms",
+            turns,
+            TURNS_OF_CHEAP * turns,
+            DEAR * 1e3
+        )
     }
 
     fn take_turn(&mut self, ticket: Ticket) {
@@ -85,7 +96,7 @@ impl Jobs {
         work.prepare();
         let start = processor_time();
         for _ in 0..timed.frames {
-            work.convert(shape, pictures::borrowed(source), pictures::lent(planes));
+            work.convert(shape, pictures::to_read(source), pictures::to_write(planes));
         }
         let took = (processor_time() - start) / timed.frames as f64;
         timed.quickest = timed.quickest.min(took);

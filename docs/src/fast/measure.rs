@@ -19,8 +19,8 @@ mod yardstick;
 
 use bench::{at_most, at_most_of, Bench, LARGE};
 use converters::{by_biased_yardstick, by_yardstick, check_by_box};
-use jobs::Ticket;
-use pictures::Shape;
+use jobs::{Jobs, Ticket};
+use pictures::{Read, Shape, Write};
 use setting::{Setting, Way};
 use std::rc::Rc;
 
@@ -32,15 +32,15 @@ const WAYS: [(Way, &str); 2] = [(Way::Forward, "forward"), (Way::Reverse, "rever
 /// The yardstick, which is the first job, and what else is measured for information.
 fn references(bench: &mut Bench) {
     let source = bench.random(LARGE, [8; 3]);
-    let yardstick = bench.job(LARGE, source.clone(), |shape: &Shape, from: [&[u16]; 3], to: [&mut [u16]; 3]| {
+    let yardstick = bench.job_at(CODE_1, Way::Forward, LARGE, source.clone(), |shape: &Shape, from: Read, to: Write| {
         by_yardstick(shape, from, to).expect("an accepted frame")
     });
     bench.row("the yardstick", yardstick, None);
-    let biased = bench.job(LARGE, source.clone(), |shape: &Shape, from: [&[u16]; 3], to: [&mut [u16]; 3]| {
+    let biased = bench.job_at(CODE_1, Way::Forward, LARGE, source.clone(), |shape: &Shape, from: Read, to: Write| {
         by_biased_yardstick(shape, from, to).expect("an accepted frame")
     });
     bench.row("the yardstick, biased", biased, None);
-    let copied = bench.job(LARGE, source.clone(), |_: &Shape, from: [&[u16]; 3], to: [&mut [u16]; 3]| {
+    let copied = bench.job(LARGE, source.clone(), |_: &Shape, from: Read, to: Write| {
         from.iter().zip(to).for_each(|(from, to)| to.copy_from_slice(from))
     });
     bench.row("three planes copied", copied, None);
@@ -48,7 +48,7 @@ fn references(bench: &mut Bench) {
         let plain = bench.plain_job(CODE_1, way, LARGE, source.clone());
         bench.row(&format!("plain Rust for every setting, code 1, {}", name), plain, None);
         let convert = if way == Way::Forward { literal::forward } else { literal::reverse };
-        let literal = bench.job(LARGE, source.clone(), move |_: &Shape, from: [&[u16]; 3], to: [&mut [u16]; 3]| {
+        let literal = bench.job_at(CODE_1, way, LARGE, source.clone(), move |_: &Shape, from: Read, to: Write| {
             let [x, y, z] = to;
             convert(from, x, y, z)
         });
@@ -106,7 +106,7 @@ fn other_matrices(bench: &mut Bench) -> Ticket {
     let reverse = bench.box_job(LOSSLESS, Way::Reverse, LARGE, ycc.clone());
     bench.row("lossless code 8, Y 8, C 9, reverse", reverse, at_most_of(1.5, forward, "forward"));
     let nothing_written = Shape { output_stride: 0, ..LARGE };
-    let check = bench.job(nothing_written, ycc, |shape: &Shape, from: [&[u16]; 3], _: [&mut [u16]; 3]| {
+    let check = bench.job(nothing_written, ycc, |shape: &Shape, from: Read, _: Write| {
         assert!(check_by_box(&LOSSLESS, shape, from), "every pixel has a source")
     });
     bench.row("lossless code 8, Y 8, C 9, image check", check, at_most_of(4.0, forward, "forward"));
@@ -140,6 +140,7 @@ fn main() {
     shapes(&mut bench, "code 1, forward", CODE_1, code_1);
     shapes(&mut bench, "lossless, forward", LOSSLESS, lossless);
     bench.run(turns);
+    println!("1,920 by 1,080 where the row says nothing else; {}.\n", Jobs::rule(turns));
     bench.print();
     println!();
     remarks.iter().for_each(|line| println!("{}", line));

@@ -1,6 +1,9 @@
 //! Frames to measure with: their shape, planes of random samples, and planes to be written.
 
 pub type Planes = [Vec<u16>; 3];
+/// Planes that are lent to be read, and to be written.
+pub type Read<'a> = [&'a [u16]; 3];
+pub type Write<'a> = [&'a mut [u16]; 3];
 
 #[derive(Clone, Copy, PartialEq, Eq)]
 pub struct Shape {
@@ -57,10 +60,10 @@ pub fn fill(planes: &mut Planes) {
     planes.iter_mut().for_each(|plane| plane.fill(0xa5a5));
 }
 
-pub fn borrowed([a, b, c]: &Planes) -> [&[u16]; 3] {
+pub fn to_read([a, b, c]: &Planes) -> Read<'_> {
     [a, b, c]
 }
 
-pub fn lent([a, b, c]: &mut Planes) -> [&mut [u16]; 3] {
+pub fn to_write([a, b, c]: &mut Planes) -> Write<'_> {
     [a, b, c]
 }

@@ -18,7 +18,7 @@ pub fn add(bench: &mut Bench, s: &Setting) -> Vec<String> {
 mod with_zimg {
     use crate::bench::{Bench, LARGE};
     use crate::jobs::Work;
-    use crate::pictures::Shape;
+    use crate::pictures::{self, Read, Shape, Write};
     use crate::setting::{Setting, Way};
     use std::ffi::c_void;
 
@@ -46,7 +46,7 @@ mod with_zimg {
     }
 
     impl Zimg {
-        fn new(bytes: bool, any_processor: bool, source: [&[u16]; 3]) -> Zimg {
+        fn new(bytes: bool, any_processor: bool, source: Read) -> Zimg {
             let handle = unsafe { rival_zimg_new(LARGE.width as u32, LARGE.height as u32, bytes.into(), any_processor.into()) };
             assert!(!handle.is_null(), "zimg has no such conversion");
             let source = source.map(|plane| blocks(plane, bytes));
@@ -78,7 +78,7 @@ mod with_zimg {
             self.output.iter_mut().for_each(|plane| plane.fill(Block([0xa5; 64])));
         }
 
-        fn convert(&mut self, _shape: &Shape, _from: [&[u16]; 3], _to: [&mut [u16]; 3]) {
+        fn convert(&mut self, _shape: &Shape, _from: Read, _to: Write) {
             self.run();
         }
     }
@@ -122,7 +122,7 @@ mod with_zimg {
     fn add_one(bench: &mut Bench, s: &Setting, name: &str, bytes: bool, any_processor: bool) -> String {
         let source = bench.random(LARGE, [8; 3]);
         let ours = bench.answer(s, Way::Forward, LARGE, &source);
-        let mut zimg = Zimg::new(bytes, any_processor, [&source[0], &source[1], &source[2]]);
+        let mut zimg = Zimg::new(bytes, any_processor, pictures::to_read(&source));
         zimg.run();
         let differences = zimg.samples().zip(ours.iter().flatten()).map(|(theirs, &ours)| theirs.abs_diff(ours));
         let (count, most) = differences.fold((0, 0), |(count, most), d| (count + usize::from(d > 0), d.max(most)));

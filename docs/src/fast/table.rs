@@ -30,7 +30,7 @@ pub fn print(jobs: &Jobs, rows: &[Row]) {
             three_digits(jobs.seconds_per_pixel(shown) * 1e9),
             three_digits(ratio(jobs, shown, YARDSTICK)),
             three_digits(jobs.shape(shown).written_per_pixel()),
-            row.goal.map_or(String::from(" | | "), |goal| verdict(jobs, row, goal))
+            row.goal.map_or(String::from("| |"), |goal| verdict(jobs, row, goal))
         );
     }
 }
