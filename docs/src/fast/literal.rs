@@ -1,5 +1,6 @@
 //! Code 1 with 8 bits and full range on both sides, and nothing else: every divisor is a literal, which the compiler turns into a
-//! multiplication. It takes planes of one row after the other and refuses nothing. How fast one setting could go.
+//! multiplication. It takes planes of one row after the other and refuses nothing. Its numbers have 64 bits; the yardstick does the same in
+//! 32 and owes more.
 
 /// Round(n / D), halves away from zero, for an even D.
 fn rounded<const D: i64>(n: i64) -> i64 {
