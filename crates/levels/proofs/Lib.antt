@@ -4,4 +4,5 @@ pub mod Writing
 pub mod Bounds
 pub mod Fitting
 pub mod Pixels
+pub mod Numerators
 pub mod Solves

@@ -2,7 +2,7 @@
 use mathlib.Core.Path.{_≡_}
 use Prim.Native.Nat.{ℕ, _+_, _*_, _/_, _≤_, _<_}
 use Rattle.fraction.specs.Fraction.{Frac}
-use Rattle.sample.specs.Depth.{leastDepth, mostLevelDepth, M}
+use Rattle.sample.specs.Depth.{leastDepth, mostLevelDepth, M, UpTo}
 use Rattle.sample.specs.declared.Pixel.{Pixel}
 use Rattle.scale.specs.Scale.{rgbScale, lumaScale, chromaScale, level, writtenRgb, writtenLuma, writtenChroma}
 use Rattle.scale.specs.declared.Scale.{Scale}
@@ -113,7 +113,5 @@ pub record LevelDepths (s : LevelSetting) : Type 0 where
 abbrev pub mostSample : ℕ
 mostSample = M mostLevelDepth
 
-pub record SamplesFit (p : Pixel) : Type 0 where
-  pub p0-in : p .p0 ≤ mostSample
-  pub p1-in : p .p1 ≤ mostSample
-  pub p2-in : p .p2 ≤ mostSample
+abbrev pub SamplesFit : Pixel → Type 0
+SamplesFit p = UpTo mostSample p

@@ -109,6 +109,13 @@ lineAt l p = sumOf (l .equation) (pos (p .p0)) (pos (p .p1)) (pos (p .p2)) +ℤ 
 abbrev pub lineSample : Line → Pixel → ℕ
 lineSample l p = clip (l .top) (round (lineAt l p) (l .equation .over) +ℤ pos (l .mid))
 
+-- the same numerator as what is added and what is taken away
+abbrev pub added : Line → Pixel → ℕ
+added l p = l .equation .up0 * p .p0 + l .equation .up1 * p .p1 + l .equation .up2 * p .p2 + l .up
+
+abbrev pub taken : Line → Pixel → ℕ
+taken l p = l .equation .down0 * p .p0 + l .equation .down1 * p .p1 + l .equation .down2 * p .p2 + l .down
+
 abbrev pub linesPixel : Lines → Pixel → Pixel
 linesPixel l p =
     record { p0 = lineSample (l .first .line) p; p1 = lineSample (l .second .line) p; p2 = lineSample (l .third .line) p }

@@ -11,6 +11,9 @@ use equations::Equations;
 use lines::Lines;
 use sample::Depths;
 
+// The largest sample that a level matrix reads.
+pub const MOST_SAMPLE: u16 = (1 << sample::MOST_LEVEL_DEPTH) - 1;
+
 // The depths of a setting, and which of its sides are full range.
 pub struct LevelSetting {
     pub depths: Depths,

@@ -4,3 +4,4 @@ pub mod FromParts
 pub mod Edges
 pub mod Quotients
 pub mod Rounding
+pub mod Lifted

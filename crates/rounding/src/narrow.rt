@@ -5,7 +5,7 @@ ghost use lib.IntN.{pos, _-ℤ_};
 ghost use Rattle.rounding.specs.Rounding.{clip};
 
 // p - q, brought up to 0.
-fn excess(p: u16, q: u16) -> u16
+pub fn excess(p: u16, q: u16) -> u16
     ensures { λ r. ⌜ r ≡ p - q ⌝ }
 {
     if p < q {
@@ -15,7 +15,7 @@ fn excess(p: u16, q: u16) -> u16
 }
 
 // The smaller of two.
-fn smaller(p: u16, q: u16) -> u16
+pub fn smaller(p: u16, q: u16) -> u16
     ensures { λ r. ⌜ r ≡ min p q ⌝ }
 {
     if p < q {
@@ -32,4 +32,25 @@ pub fn clip_moved(n: u16, p: u16, q: u16, top: u16) -> u16
 {
     let low = smaller(excess(n, excess(q, p)), top);
     smaller(low + excess(p, q), top)
+}
+
+// The smaller of two that are small: signed numbers are compared at once where unsigned ones are not.
+fn smaller_of_small(p: u16, q: u16) -> u16
+    requires { ⌜ p < 2 ^ 15 ⌝ }
+    requires { ⌜ q < 2 ^ 15 ⌝ }
+    ensures { λ r. ⌜ r ≡ min p q ⌝ }
+{
+    if (q as i16) < (p as i16) {
+        return q;
+    }
+    p
+}
+
+// n - under, brought into 0..top, for numbers that are small.
+pub fn clip_lowered(n: u16, under: u16, top: u16) -> u16
+    requires { ⌜ n < 2 ^ 15 ⌝ }
+    requires { ⌜ top < 2 ^ 15 ⌝ }
+    ensures { λ r. ⌜ r ≡ min (n - under) top ⌝ }
+{
+    smaller_of_small(excess(n, under), top)
 }

@@ -112,6 +112,12 @@ abbrev pub InsideOf : Side → Depths → Pixel → Type 0
 InsideOf side.Rgb d p = InsideRGB d p
 InsideOf side.Ycc d p = InsideYCC d p
 
+-- a pixel with no sample above `most`
+pub record UpTo (most : ℕ) (p : Pixel) : Type 0 where
+  pub p0-in : p .p0 ≤ most
+  pub p1-in : p .p1 ≤ most
+  pub p2-in : p .p2 ≤ most
+
 -- the largest sample of each plane of a side
 abbrev pub tops : Side → Depths → Pixel
 tops side.Rgb d = record { p0 = M (d .rgb .0); p1 = M (d .rgb .0); p2 = M (d .rgb .0) }

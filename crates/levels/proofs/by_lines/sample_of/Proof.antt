@@ -1,14 +1,9 @@
 -- `levels::by_lines::sample_of` meets its contract: what it adds and what it takes away are the two parts of the line at the pixel.
-use mathlib.Core.Path.{_∙_, ap}
-use Prim.Native.Nat.{_+_, _*_}
+use mathlib.Core.Path.{_∙_}
 use native.Mathlib.Omega.{arith}
-use lib.IntN.{pos, _+ℤ_}
 use borrow.Author.Needs.{needs}
-use Rattle.rounding.specs.Rounding.{round, clip}
-use Rattle.rounding.proofs.Difference.{parts, parts-sub}
-use Rattle.rounding.proofs.FromParts.{same}
-use Rattle.levels.specs.Lines.{lineAt}
 use Rattle.levels.proofs.Bounds.{Terms, terms}
+use Rattle.levels.proofs.Numerators.{sample-in-parts}
 use Rattle.levels.proofs.by_lines.sample_of.Statement.{statement}
 use Rattle.levels.proofs.by_lines.sample_of.Tie as tie
 
@@ -34,15 +29,7 @@ round-clip-by-requires c κs =
 returns : tie.Need-returns
 returns c =
     let a = c .before .before .before .before .before .before .before .args in
-    let l = a .l .line in
-    let w = l .equation in
-    let p = a .p in
-    c .round-clip-by .ensures
-    ∙ ap (λ n. clip (l .top) (round n (w .over) +ℤ pos (l .mid)))
-    (same {y = lineAt l p}
-    (parts-sub (w .up0 * p .p0 + w .up1 * p .p1 + w .up2 * p .p2 + l .up) (w .down0 * p .p0 + w .down1 * p .p1 + w .down2 * p .p2 + l .down))
-    (search parts depth 20)
-    (omega arith))
+    c .round-clip-by .ensures ∙ sample-in-parts (a .l .line) (a .p)
 
 pub sample-of-spec : {M : Type 1} → statement M
 sample-of-spec =
