@@ -1,0 +1,55 @@
+-- Lights of samples within depth stay within reach, so numbers that have room at the end of it have room everywhere.
+use mathlib.Core.Path.{_≡_, ap, _∙_}
+use Prim.Native.Nat.{ℕ, _+_, _*_, _-_, _/_, _^_, _≤_, _<_}
+use native.Mathlib.Nat.{mul-le-mul-left}
+use native.Mathlib.Omega.{arith}
+use lib.IntN.{pos, _+ℤ_, _-ℤ_}
+use lib.Pow.{pow-pos}
+use Rattle.rounding.specs.Rounding.{round, clip}
+use Rattle.rounding.proofs.Lifted.{div-mono}
+use Rattle.sample.specs.declared.Pixel.{Pixel}
+use Rattle.levels.specs.Lines.{added, taken, lineSample}
+use Rattle.levels.specs.declared.lines.Line.{Line}
+use Rattle.levels.proofs.Numerators.{sample-in-parts}
+use Rattle.light.specs.Scaled.{wholeOf, scaledSample, Fits}
+use Rattle.sample.specs.Depth.{UpTo}
+use Rattle.light.specs.Light.{Weighs, Plane}
+use Rattle.light.specs.declared.Light.{Light}
+use Rattle.light.specs.declared.scaled.Scaled.{Scaled}
+use Rattle.light.proofs.Scaling.{scaled-is}
+
+pub fits-before : {s : Scaled} {reach : ℕ} → Fits s reach → (n : ℕ) → n ≤ reach → Fits s n
+fits-before {s} {reach} f n l =
+    let less = mul-le-mul-left (s .factor) l in
+    let first = div-mono {m = s .factor * n + s .base} {n = s .factor * reach + s .base} 4294967296 (omega arith) (omega arith) in
+    let second = div-mono (2 ^ s .shift) (pow-pos (s .shift)) first in
+    let room = f .sum-in in
+    let whole = f .whole-in in
+    record { sum-in = omega arith; whole-in = omega arith; top-in = f .top-in; shift-in = f .shift-in }
+
+-- each product of a light, at the largest sample
+pub record Lit (k : Light) (p : Pixel) : Type 0 where
+  pub first : k .kr * p .p0 ≤ k .kr * k .most
+  pub second : k .kg * p .p1 ≤ k .kg * k .most
+  pub third : k .kb * p .p2 ≤ k .kb * k .most
+  pub all : k .kr * k .most + k .kg * k .most + k .kb * k .most ≡ k .bias
+
+pub lit : {k : Light} → Weighs k → (p : Pixel) → UpTo (k .most) p → Lit k p
+lit {k} w p h =
+    let sum = ap (λ n. n * k .most) (w .sum) in
+    let most = w .bias-is in
+    record {
+      first = mul-le-mul-left (k .kr) (h .p0-in);
+      second = mul-le-mul-left (k .kg) (h .p1-in);
+      third = mul-le-mul-left (k .kb) (h .p2-in);
+      all = omega arith;
+    }
+
+-- the sample of a plane is its line's
+pub plane-is : {l : Line} {most reach : ℕ} {n : Pixel → ℕ} {s : Scaled} → Plane l most n reach s → (p : Pixel) → UpTo most p → (i : ℕ) → i ≡ n p → i ≤ reach
+    → scaledSample s i ≡ lineSample l p
+plane-is {l} h p w i e k =
+    rw e
+    (scaled-is (h .scales) _ (rw (← e) k) (added l p) (taken l p) (h .follows .each p w)
+    ∙ ap (λ d. clip (l .top) (round (pos (added l p) -ℤ pos (taken l p)) d +ℤ pos (l .mid))) (h .follows .over-is)
+    ∙ sample-in-parts l p)
