@@ -1,20 +1,15 @@
-// One loop for each kind of formulas.
+// One loop for each kind of formulas but the level matrices.
 ghost use mathlib.Core.Path.{_≡_};
 ghost use Prim.Native.Nat.{_<_};
 ghost use lib.ListN.{length, set};
 ghost use Rattle.sample.specs.Depth.{InsideRGB};
 ghost use Rattle.ycgco.specs.YCgCo.{lossyForward, lossyReverse, losslessForward, losslessReverse, LossyDepths, LosslessDepths};
-ghost use Rattle.levels.specs.Lines.{lineSample, linesPixel};
-ghost use Rattle.levels.specs.Room.{LineReady, AllReady};
-ghost use Rattle.levels.specs.Conversion.{SamplesFit};
-ghost use Rattle.convert.specs.Row.{pixelIn, rowBy, ConvertedRows, EveryOf, OneWidth};
-use levels::lines::Lines;
-use levels::lines::ReadyLine;
+ghost use Rattle.convert.specs.Row.{pixelIn, ConvertedRows, EveryOf, OneWidth};
 use sample::Depths;
 use sample::Pixel;
 
 // The pixel at index i of three rows.
-pub fn pixel_in(a0: &[u16], a1: &[u16], a2: &[u16], i: usize) -> Pixel
+pub(crate) fn pixel_in(a0: &[u16], a1: &[u16], a2: &[u16], i: usize) -> Pixel
     requires { ⌜ i < length (now a0) ⌝ }
     requires { ⌜ i < length (now a1) ⌝ }
     requires { ⌜ i < length (now a2) ⌝ }
@@ -28,7 +23,7 @@ pub fn pixel_in(a0: &[u16], a1: &[u16], a2: &[u16], i: usize) -> Pixel
 }
 
 // A pixel, stored at index i of three rows.
-fn put(b0: &mut [u16], b1: &mut [u16], b2: &mut [u16], i: usize, p: Pixel)
+pub(crate) fn put(b0: &mut [u16], b1: &mut [u16], b2: &mut [u16], i: usize, p: Pixel)
     requires { ⌜ i < length (now b0) ⌝ }
     requires { ⌜ i < length (now b1) ⌝ }
     requires { ⌜ i < length (now b2) ⌝ }
@@ -70,41 +65,6 @@ pub fn copy_three(
     copy(a0, b0);
     copy(a1, b1);
     copy(a2, b2);
-}
-
-// One plane by its line.
-fn line_plane(line: ReadyLine, a0: &[u16], a1: &[u16], a2: &[u16], b: &mut [u16])
-    requires { ⌜ LineReady line ⌝ }
-    requires { ⌜ length (now a1) ≡ length (now a0) ⌝ }
-    requires { ⌜ length (now a2) ≡ length (now a0) ⌝ }
-    requires { ⌜ length (now b) ≡ length (now a0) ⌝ }
-    requires { ⌜ EveryOf SamplesFit (now a0) (now a1) (now a2) ⌝ }
-    ensures { λ _. ⌜ now (b .exit) ≡ rowBy (lineSample (line .line)) (now (a0 .entry)) (now (a1 .entry)) (now (a2 .entry)) ⌝ }
-{
-    for i in 0..a0.len() {
-        let p = pixel_in(a0, a1, a2, i);
-        b[i] = levels::by_lines::sample_of(line, p);
-    }
-}
-
-// A level matrix, a plane at a time, so that one line's numbers stay at hand.
-pub fn by_lines(
-    lines: Lines,
-    a0: &[u16],
-    a1: &[u16],
-    a2: &[u16],
-    b0: &mut [u16],
-    b1: &mut [u16],
-    b2: &mut [u16],
-)
-    requires { ⌜ AllReady lines ⌝ }
-    requires { ⌜ OneWidth (now a0) (now a1) (now a2) (now b0) (now b1) (now b2) ⌝ }
-    requires { ⌜ EveryOf SamplesFit (now a0) (now a1) (now a2) ⌝ }
-    ensures { λ _. ⌜ ConvertedRows (linesPixel lines) (now (a0 .entry)) (now (a1 .entry)) (now (a2 .entry)) (now (b0 .exit)) (now (b1 .exit)) (now (b2 .exit)) ⌝ }
-{
-    line_plane(lines.first, a0, a1, a2, b0);
-    line_plane(lines.second, a0, a1, a2, b1);
-    line_plane(lines.third, a0, a1, a2, b2);
 }
 
 // The lossy formulas, forward.

@@ -17,9 +17,8 @@ use Rattle.planes.specs.Sizes.{Fits}
 use Rattle.planes.specs.declared.size.Layout.{Layout}
 use Rattle.planes.proofs.PlaneTheorems.{plane-same}
 use Rattle.plan.specs.Conversion.{convert}
-use Rattle.plan.specs.Plan.{planOf, planned, Roomy, Takes, Plans}
+use Rattle.plan.specs.Plan.{planned, Roomy, Takes, Plans}
 use Rattle.plan.specs.declared.Plan.{Plan}
-use Rattle.plan.proofs.PlanLaws.{plans-as}
 use Rattle.admit.proofs.Accepted.{accepted-of, is-ready, all-fit, pixels-inside}
 use Rattle.frame.specs.Frame.{frameAdmission, frameAnswer, mappedPlane, convertedPlane, lengthOf, outPlane, FrameAfter, MappedPlanes}
 use Rattle.frame.specs.declared.FrameAnswer.the-variants.{Done, Refused}
@@ -57,11 +56,8 @@ module _ {way : Way} {s : Setting} {a : Picture} {b : Layout} {x : Served} (l : 
   pub all-ready : Ready x
   all-ready = let k = accepted-of (Convert way) s _ _ x (l .is-admitted) in subst Ready (k .1) (is-ready _ _ _ _ (k .0))
 
-  -- it is painted by the plan of the conversion
-  module _ {plan : Plan} (e : plan ≡ planOf way x) where
-    h : Plans (convert way x) (inputOf way) (x .depths) plan
-    h = plans-as way x e all-ready
-
+  -- it is painted by a plan of the conversion
+  module _ {plan : Plan} (h : Plans (convert way x) (inputOf way) (x .depths) plan) where
     pub paintable : Roomy plan × (Fits (a .width) (a .height) (layoutOf a) × (Fits (a .width) (a .height) b × EveryPixel (Takes plan) a))
     paintable =
         let k = accepted-of (Convert way) s _ _ x (l .is-admitted) in

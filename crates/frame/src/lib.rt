@@ -52,7 +52,16 @@ pub fn convert_frame(
     };
     match admit::admit_picture(call, s, width, height, input_stride, output, a0, a1, a2) {
         Admission::Admitted(served) => {
-            paint::paint(plan::plan_of(way, served), size, a0, a1, a2, b0, b1, b2);
+            paint::paint(
+                plan::rows::plan_rows(way, served),
+                size,
+                a0,
+                a1,
+                a2,
+                b0,
+                b1,
+                b2,
+            );
             FrameAnswer::Done
         }
         Admission::Refused(refusal) => {

@@ -13,16 +13,16 @@ let-in : (c : tie.After-served)
     (outputLayout (x .size) (length (x .b0 .now)) (length (x .b1 .now)) (length (x .b2 .now))) (c .served .given .0 .0)
 let-in c = record { is-admitted = sym (c .before .before .admit-picture .ensures) ∙ c .served .given .1 }
 
-plan-of-requires : tie.Need-plan-of-requires
-plan-of-requires c κs = all-ready (let-in (c .before))
+plan-rows-requires : tie.Need-plan-rows-requires
+plan-rows-requires c κs = all-ready (let-in (c .before))
 
 paint-requires : tie.Need-paint-requires
-paint-requires c κs = let p = c .before .before .before in paintable (let-in (p .before .before)) (p .plan-of .ensures)
+paint-requires c κs = let p = c .before .before .before in paintable (let-in (p .before .before)) (p .plan-rows .ensures)
 
 returns : tie.Need-returns
 returns c =
     let p = c .before .before .before .before .before .before .before .before .before .before in
-    painted (let-in (p .before .before)) (p .plan-of .ensures) (c .before .before .before .before .before .before .paint .ensures)
+    painted (let-in (p .before .before)) (p .plan-rows .ensures) (c .before .before .before .before .before .before .paint .ensures)
 
 returns-2 : tie.Need-returns-2
 returns-2 c =
@@ -32,6 +32,6 @@ returns-2 c =
 pub convert-frame-spec : {M : Type 1} → statement M
 convert-frame-spec =
     tie.close
-    (tie.spec (λ c κs. search needs) (λ c. search needs) plan-of-requires paint-requires (λ c. search needs)
+    (tie.spec (λ c κs. search needs) (λ c. search needs) plan-rows-requires paint-requires (λ c. search needs)
     (λ c κs. search needs) (λ c. search needs) (λ c. search needs) (λ c. search needs) returns (λ c. search needs)
     (λ c. search needs) (λ c. search needs) returns-2)

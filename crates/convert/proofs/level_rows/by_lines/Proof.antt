@@ -1,7 +1,7 @@
--- `convert::each::by_lines` meets its contract, plane by plane.
+-- `convert::level_rows::by_lines` meets its contract, plane by plane.
 use borrow.Author.Needs.{needs}
-use Rattle.convert.proofs.each.by_lines.Statement.{statement}
-use Rattle.convert.proofs.each.by_lines.Tie as tie
+use Rattle.convert.proofs.level_rows.by_lines.Statement.{statement}
+use Rattle.convert.proofs.level_rows.by_lines.Tie as tie
 
 line-plane-requires : tie.Need-line-plane-requires
 line-plane-requires c κs =
