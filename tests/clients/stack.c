@@ -4,7 +4,7 @@
 #include "cases.h"
 #include <ucontext.h>
 
-enum { PAINT = 0xa5, STACK = 65536, MOST = 4096, WIDTH = 19, HEIGHT = 3, LENGTH = WIDTH * HEIGHT };
+enum { PAINT = 0xa5, STACK = 65536, MOST = 8192, WIDTH = 19, HEIGHT = 3, LENGTH = WIDTH * HEIGHT };
 
 static unsigned char stack[STACK];
 static ucontext_t here, there;
