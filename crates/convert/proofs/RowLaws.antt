@@ -9,7 +9,7 @@ use Rattle.sample.specs.declared.Pixel.{Pixel}
 use Rattle.planes.specs.Picture.{sampleOf}
 use Rattle.planes.specs.Plane.{tab}
 use Rattle.planes.proofs.Tables.{length-tab, tab-at, Filled, filled-none, filled-more, filled-all}
-use Rattle.convert.specs.Row.{pixelIn, converted, ConvertedRows, OneWidth}
+use Rattle.convert.specs.Row.{pixelIn, converted, rowBy, ConvertedRows, OneWidth}
 
 -- the rows b0, b1, b2 are what f makes of the row a0, a1, a2, as far as index i
 pub record Written (f : Pixel → Pixel) (a0 a1 a2 b0 b1 b2 : List ℕ) (i : ℕ) : Type 0 where
@@ -43,6 +43,23 @@ module _ {f : Pixel → Pixel} {a0 a1 a2 b0 b1 b2 : List ℕ} where
 
   pub written-all : {i : ℕ} → Written f a0 a1 a2 b0 b1 b2 i → i ≡ length a0 → ConvertedRows f a0 a1 a2 b0 b1 b2
   written-all w e = (filled-all _ _ _ _ e (w .row0), (filled-all _ _ _ _ e (w .row1), filled-all _ _ _ _ e (w .row2)))
+
+-- the row b is what g makes of the row a0, a1, a2, as far as index i
+pub record WrittenPlane (g : Pixel → ℕ) (a0 a1 a2 b : List ℕ) (i : ℕ) : Type 0 where
+  pub until : i ≤ length a0
+  pub row : Filled (λ (n : ℕ). g (pixelIn a0 a1 a2 n)) (length a0) b i
+
+module _ {g : Pixel → ℕ} {a0 a1 a2 b : List ℕ} where
+  pub plane-none : length b ≡ length a0 → WrittenPlane g a0 a1 a2 b 0
+  plane-none h = record { until = omega arith; row = filled-none _ _ _ h }
+
+  -- a turn: of the pixel p at i the formula makes v, which is stored
+  pub plane-more : {i v : ℕ} {p : Pixel} → WrittenPlane g a0 a1 a2 b i → i < length a0 → p ≡ pixelIn a0 a1 a2 i → v ≡ g p
+      → WrittenPlane g a0 a1 a2 (set b i v) (i + 1)
+  plane-more w l e d = record { until = omega arith; row = filled-more _ _ _ _ _ l (d ∙ ap g e) (w .row) }
+
+  pub plane-all : {i : ℕ} → WrittenPlane g a0 a1 a2 b i → i ≡ length a0 → b ≡ rowBy g a0 a1 a2
+  plane-all w e = filled-all _ _ _ _ e (w .row)
 
 -- a row, read element by element
 pub row-itself : (l : List ℕ) (n : ℕ) → length l ≡ n → l ≡ tab n (λ (i : ℕ). getD l i 0)

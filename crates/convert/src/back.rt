@@ -7,7 +7,7 @@ ghost use Rattle.ycgco.specs.YCgCo.{losslessForward, losslessReverse, LosslessD
 ghost use Rattle.plan.specs.Plan.{planned, Roomy, Takes};
 ghost use Rattle.plan.specs.Source.{samePixel};
 ghost use Rattle.convert.specs.Row.{EveryOf, KnownBack};
-use crate::each;
+use crate::pixels::pixel_in;
 use plan::Plan;
 use sample::Depths;
 use sample::Pixel;
@@ -29,7 +29,7 @@ fn lossless(back: Depths, forth: Depths, a0: &[u16], a1: &[u16], a2: &[u16]) -> 
 {
     let mut apart = 0;
     for i in 0..a0.len() {
-        let p = each::pixel_in(a0, a1, a2, i);
+        let p = pixel_in(a0, a1, a2, i);
         let source = ycgco::lossless_reverse(back, p);
         let again = ycgco::lossless_forward(forth, source);
         apart = apart | difference(again, p);

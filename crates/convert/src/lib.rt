@@ -1,7 +1,8 @@
 // Pixels and rows of pixels, converted by a plan.
 pub mod back;
 mod each;
-mod level_rows;
+mod line_rows;
+pub mod pixels;
 pub mod row;
 
 ghost use mathlib.Core.Path.{_≡_};
@@ -32,8 +33,6 @@ pub fn pixel(plan: Plan, p: Pixel) -> Pixel
         Plan::LosslessForward(d) => ycgco::lossless_forward(d, p),
         Plan::LosslessReverse(d) => ycgco::lossless_reverse(d, p),
         Plan::Lines(lines) => levels::by_lines::pixel_of(lines, p),
-        Plan::Light(light) => levels::by_lines::pixel_of(light.lines, p),
-        Plan::Words(words) => levels::by_lines::pixel_of(words.lines, p),
     }
 }
 

@@ -2,7 +2,7 @@
 ghost use Rattle.plan.specs.Plan.{planned, Roomy, Takes};
 ghost use Rattle.convert.specs.Row.{OneWidth, EveryOf, ConvertedRows};
 use crate::each;
-use crate::level_rows;
+use crate::line_rows;
 use plan::Plan;
 
 pub fn convert_row(
@@ -26,8 +26,6 @@ pub fn convert_row(
         Plan::LossyReverse(d) => each::lossy_reverse(d, a0, a1, a2, b0, b1, b2),
         Plan::LosslessForward(d) => each::lossless_forward(d, a0, a1, a2, b0, b1, b2),
         Plan::LosslessReverse(d) => each::lossless_reverse(d, a0, a1, a2, b0, b1, b2),
-        Plan::Lines(lines) => level_rows::by_lines(lines, a0, a1, a2, b0, b1, b2),
-        Plan::Light(light) => level_rows::by_light(light, a0, a1, a2, b0, b1, b2),
-        Plan::Words(words) => level_rows::by_words(words, a0, a1, a2, b0, b1, b2),
+        Plan::Lines(lines) => line_rows::by_lines(lines, a0, a1, a2, b0, b1, b2),
     }
 }

@@ -1,17 +1,21 @@
 -- The sums of the high words and of the low words give the whole units of the sum: what the low words carry belongs to the high ones.
-use mathlib.Core.Path.{_≡_, sym, ap, _∙_}
+use mathlib.Core.Path.{_≡_, refl, sym, ap, _∙_}
+use mathlib.Core.Bool.{Bool, true, false, cond}
 use mathlib.Core.Logic.{⊎-elim}
 use Prim.Native.Nat.{ℕ, _+_, _*_, _-_, _/_, _^_, _≤_, _<_, min}
 use native.Mathlib.Nat.{mul-le-mul-left, mul-add-div-right, div-div-eq-div-mul, div-lt-iff-lt-mul}
 use native.Mathlib.Omega.{arith}
+use borrow.Author.Tests.{eqb-true, lt-ltb, le-ltb}
+use lib.Dec.{ltb, eqb}
 use lib.Pow.{pow-mono}
 use Rattle.sample.specs.Depth.{pastSamples}
 use Rattle.sample.specs.declared.Pixel.{Pixel}
+use Rattle.sample.proofs.Choices.{below-or-not}
 use Rattle.levels.specs.declared.lines.Line.{Line}
 use Rattle.levels.specs.Lines.{lineSample}
 use Rattle.sample.specs.Depth.{UpTo}
 use Rattle.fixed.specs.Numbers.{distance, sumOf, Stands}
-use Rattle.fixed.specs.Words.{pastWords, word, numbersOf, sumsOf, wholeOf, Sided, WholeFits, WordsFit}
+use Rattle.fixed.specs.Words.{pastWords, word, numbersOf, sumsOf, wholeOf, downOf, upOf, sidedSample, raisedSample, wordSample, WholeFits, WordsFit}
 use Rattle.fixed.specs.declared.words.Words.{Words}
 use Rattle.fixed.proofs.Standing.{distance-in, sample-below, sample-above, sample-alone}
 
@@ -79,17 +83,28 @@ module _ {w : Words} (fits : WordsFit w) {p : Pixel} (inside : UpTo (w .most) p)
       let carried : (sumsOf w p .low + k) / pastWords < 3 * w .most + 2 = div-lt-iff-lt-mul {k = pastWords} (omega arith) .1 (omega arith) in
       record { low-in = omega arith; high-in = omega arith; shift-in = fits .shift-in }
 
+-- so words that stand for a line give its samples
 module _ {l : Line} (w : Words) (h : Stands l (numbersOf w)) (p : Pixel) (inside : UpTo (w .most) p) where
-  -- so either of the whole numbers is the line's, on its side of zero
-  pub sample-sided : (down up r : ℕ) → down ≡ wholeOf (sumsOf w p) 0 (w .shift) → up ≡ wholeOf (sumsOf w p) (w .add) (w .shift)
-      → Sided down up (w .lift) r → min (r - w .under) (w .top) ≡ lineSample l p
-  sample-sided down up r d u k =
-      let d-is : down ≡ sumOf (numbersOf w) p / numbersOf w .unit = d ∙ whole-is w p 0 ∙ ap (λ n. n / numbersOf w .unit) (omega arith) in
-      let u-is : up ≡ (sumOf (numbersOf w) p + w .add) / numbersOf w .unit = u ∙ whole-is w p (w .add) in
-      ⊎-elim
-      (λ side. ap (λ n. min (n - w .under) (w .top)) (side .1 ∙ d-is) ∙ sample-below h p inside (rw d-is at (side .0)))
-      (λ side. ap (λ n. min (n - w .under) (w .top)) (side .1 ∙ u-is) ∙ sample-above h p inside (rw d-is at (side .0)))
-      k
+  down-is : downOf w p ≡ sumOf (numbersOf w) p / numbersOf w .unit
+  down-is = whole-is w p 0 ∙ ap (λ n. n / numbersOf w .unit) (omega arith)
 
-  pub sample-up : (up : ℕ) → up ≡ wholeOf (sumsOf w p) (w .add) (w .shift) → l .mid ≡ 0 → min (up - w .under) (w .top) ≡ lineSample l p
-  sample-up up u none = ap (λ n. min (n - w .under) (w .top)) (u ∙ whole-is w p (w .add)) ∙ sample-alone h p inside none
+  raised : w .lift ≡ w .under → raisedSample w p ≡ lineSample l p
+  raised e =
+      let none : l .mid ≡ 0 = let is = h .lift-is in omega arith in
+      ap (λ n. min (n - w .under) (w .top)) (whole-is w p (w .add)) ∙ sample-alone h p inside none
+
+  sided : sidedSample w p ≡ lineSample l p
+  sided =
+      ⊎-elim
+      (λ (k : downOf w p < w .lift).
+      rw (lt-ltb _ _ k) (ap (λ n. min (n - w .under) (w .top)) down-is ∙ sample-below h p inside (rw down-is at k)))
+      (λ (k : w .lift ≤ downOf w p).
+      rw (le-ltb _ _ k) (ap (λ n. min (n - w .under) (w .top)) (whole-is w p (w .add)) ∙ sample-above h p inside (rw down-is at k)))
+      (below-or-not (downOf w p) (w .lift))
+
+  by-test : (b : Bool) → eqb (w .lift) (w .under) ≡ b → cond b (raisedSample w p) (sidedSample w p) ≡ lineSample l p
+  by-test true e = raised (eqb-true _ _ e)
+  by-test false e = sided
+
+  pub words-are : wordSample w p ≡ lineSample l p
+  words-are = by-test _ refl

@@ -1,7 +1,8 @@
 -- What the words of a line say, and when their sums have room.
 use mathlib.Core.Path.{_≡_}
-use mathlib.Core.Logic.{_⊎_}
-use Prim.Native.Nat.{ℕ, _+_, _*_, _/_, _^_, _≤_, _<_}
+use mathlib.Core.Bool.{cond}
+use Prim.Native.Nat.{ℕ, _+_, _*_, _-_, _/_, _^_, _≤_, _<_, min}
+use lib.Dec.{ltb, eqb}
 use Rattle.sample.specs.Depth.{pastSamples}
 use Rattle.sample.specs.declared.Pixel.{Pixel}
 use Rattle.fixed.specs.Numbers.{Numbers, distance}
@@ -55,9 +56,23 @@ pub record WholeFits (s : Sums) (add shift : ℕ) : Type 0 where
   pub high-in : s .high + (s .low + add) / pastWords < pastSamples * 2 ^ shift
   pub shift-in : shift ≤ 34
 
--- of the two ways that a half can go, the one for its side of zero
-abbrev pub Sided : ℕ → ℕ → ℕ → ℕ → Type 0
-Sided down up lift r = ((down < lift) × (r ≡ down)) ⊎ ((lift ≤ down) × (r ≡ up))
+-- the two ways that a half can go
+abbrev pub downOf : Words → Pixel → ℕ
+downOf w p = wholeOf (sumsOf w p) 0 (w .shift)
+
+abbrev pub upOf : Words → Pixel → ℕ
+upOf w p = wholeOf (sumsOf w p) (w .add) (w .shift)
+
+-- the sample by the one for its side of zero, and by the one upward alone
+abbrev pub sidedSample : Words → Pixel → ℕ
+sidedSample w p = min (cond (ltb (downOf w p) (w .lift)) (downOf w p) (upOf w p) - w .under) (w .top)
+
+abbrev pub raisedSample : Words → Pixel → ℕ
+raisedSample w p = min (upOf w p - w .under) (w .top)
+
+-- the latter will do where the lift is all taken away again
+abbrev pub wordSample : Words → Pixel → ℕ
+wordSample w p = cond (eqb (w .lift) (w .under)) (raisedSample w p) (sidedSample w p)
 
 -- a weight whose low word is one, and whose mark is a sample
 pub record WeightFits (w : Weight) (most : ℕ) : Type 0 where

@@ -1,15 +1,15 @@
 // A sample by the words of its line, with no division. The form is one that many pixels are computed in side by side: products of two
 // numbers of 32 bits, and 16 bits from the shift on.
 use crate::words::Words;
-use levels::lines::Line;
 use rounding::narrow;
 use sample::Pixel;
 ghost use mathlib.Core.Path.{_≡_};
+ghost use mathlib.Core.Bool.{cond};
+ghost use lib.Dec.{ltb};
 ghost use Prim.Native.Nat.{_+_, _*_, _-_, _^_, _<_, min};
-ghost use Rattle.levels.specs.Lines.{lineSample};
 ghost use Rattle.sample.specs.Depth.{UpTo};
-ghost use Rattle.fixed.specs.Numbers.{distance, Stands};
-ghost use Rattle.fixed.specs.Words.{numbersOf, sumsOf, wholeOf, Sided, WholeFits, WordsFit};
+ghost use Rattle.fixed.specs.Numbers.{distance};
+ghost use Rattle.fixed.specs.Words.{sumsOf, wholeOf, sidedSample, raisedSample, WholeFits, WordsFit};
 
 // The sum of the high words and that of the low words.
 struct Sums {
@@ -71,7 +71,7 @@ fn clipped(n: u16, under: u16, top: u16) -> u16
 
 // Below the lift the line is below zero.
 fn sided(down: u16, up: u16, lift: u16) -> u16
-    ensures { λ r. ⌜ Sided down up lift r ⌝ }
+    ensures { λ r. ⌜ r ≡ cond (ltb down lift) down up ⌝ }
 {
     if down < lift {
         return down;
@@ -79,12 +79,11 @@ fn sided(down: u16, up: u16, lift: u16) -> u16
     up
 }
 
-// One sample by its line. A half below zero goes down and any other up; which it is, is read off the whole units.
-pub fn sample_of(line: Line, by: Words, p: Pixel) -> u16
+// One sample by its words. A half below zero goes down and any other up; which it is, is read off the whole units.
+pub fn sided_sample(by: Words, p: Pixel) -> u16
     requires { ⌜ WordsFit by ⌝ }
-    requires { ⌜ Stands line (numbersOf by) ⌝ }
     requires { ⌜ UpTo (by .most) p ⌝ }
-    ensures { λ r. ⌜ r ≡ lineSample line p ⌝ }
+    ensures { λ r. ⌜ r ≡ sidedSample by p ⌝ }
 {
     let shift = by.shift;
     let add = by.add;
@@ -97,13 +96,11 @@ pub fn sample_of(line: Line, by: Words, p: Pixel) -> u16
     clipped(sided(down, up, lift), under, top)
 }
 
-// The same for a line that adds nothing after Round: Clip makes 0 of all that is below zero, whichever way a half goes.
-pub fn sample_from_zero(line: Line, by: Words, p: Pixel) -> u16
+// The same for words that add nothing after Round: Clip makes 0 of all that is below zero, whichever way a half goes.
+pub fn raised_sample(by: Words, p: Pixel) -> u16
     requires { ⌜ WordsFit by ⌝ }
-    requires { ⌜ Stands line (numbersOf by) ⌝ }
-    requires { ⌜ line .mid ≡ 0 ⌝ }
     requires { ⌜ UpTo (by .most) p ⌝ }
-    ensures { λ r. ⌜ r ≡ lineSample line p ⌝ }
+    ensures { λ r. ⌜ r ≡ raisedSample by p ⌝ }
 {
     let shift = by.shift;
     let add = by.add;

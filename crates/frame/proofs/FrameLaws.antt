@@ -17,8 +17,8 @@ use Rattle.planes.specs.Sizes.{Fits}
 use Rattle.planes.specs.declared.size.Layout.{Layout}
 use Rattle.planes.proofs.PlaneTheorems.{plane-same}
 use Rattle.plan.specs.Conversion.{convert}
-use Rattle.plan.specs.Plan.{planned, Roomy, Takes, Plans}
-use Rattle.plan.specs.declared.Plan.{Plan}
+use Rattle.row_plan.specs.RowPlan.{rowPlanned, RowRoomy, RowTakes, RowPlans}
+use Rattle.row_plan.specs.declared.RowPlan.{RowPlan}
 use Rattle.admit.proofs.Accepted.{accepted-of, is-ready, all-fit, pixels-inside}
 use Rattle.frame.specs.Frame.{frameAdmission, frameAnswer, mappedPlane, convertedPlane, lengthOf, outPlane, FrameAfter, MappedPlanes}
 use Rattle.frame.specs.declared.FrameAnswer.the-variants.{Done, Refused}
@@ -56,18 +56,23 @@ module _ {way : Way} {s : Setting} {a : Picture} {b : Layout} {x : Served} (l : 
   pub all-ready : Ready x
   all-ready = let k = accepted-of (Convert way) s _ _ x (l .is-admitted) in subst Ready (k .1) (is-ready _ _ _ _ (k .0))
 
+  all-inside : EveryPixel (InsideOf (inputOf way) (x .depths)) a
+  all-inside =
+      let k = accepted-of (Convert way) s _ _ x (l .is-admitted) in
+      subst (λ (y : Served). EveryPixel (InsideOf (inputOf way) (y .depths)) a) (k .1) (pixels-inside (Convert way) s a (b ∷ []) (k .0))
+
   -- it is painted by a plan of the conversion
-  module _ {plan : Plan} (h : Plans (convert way x) (inputOf way) (x .depths) plan) where
-    pub paintable : Roomy plan × (Fits (a .width) (a .height) (layoutOf a) × (Fits (a .width) (a .height) b × EveryPixel (Takes plan) a))
+  module _ {plan : RowPlan} (h : RowPlans (convert way x) (inputOf way) (x .depths) plan) where
+    pub paintable : RowRoomy plan × (Fits (a .width) (a .height) (layoutOf a) × (Fits (a .width) (a .height) b × EveryPixel (RowTakes plan) a))
     paintable =
         let k = accepted-of (Convert way) s _ _ x (l .is-admitted) in
         let f = all-fit (Convert way) s a (b ∷ []) (k .0) in
-        let inside = subst (λ (y : Served). EveryPixel (InsideOf (inputOf way) (y .depths)) a) (k .1) (pixels-inside (Convert way) s a (b ∷ []) (k .0)) in
-        (h .roomy, (f .0, (f .1 .0, λ j i p q. h .takes _ (inside j i p q))))
+        (h .roomy, (f .0, (f .1 .0, λ j i p q. h .takes _ (all-inside j i p q))))
 
-    mapped : (k : ℕ) {q : List ℕ} → q ≡ mappedPlane k (planned plan) a (b .stride) (lengthOf k b) → q ≡ outPlane k way s a b
+    mapped : (k : ℕ) {q : List ℕ} → q ≡ mappedPlane k (rowPlanned plan) a (b .stride) (lengthOf k b) → q ≡ outPlane k way s a b
     mapped k m =
-        m ∙ plane-same _ _ _ _ _ _ (λ j i _ _. ap (sampleOf k) (h .is (pixelOf a j i))) ∙ sym (plane-done way s a b x (l .is-admitted) k)
+        m ∙ plane-same _ _ _ _ _ _ (λ j i p q. ap (sampleOf k) (h .is (pixelOf a j i) (all-inside j i p q)))
+        ∙ sym (plane-done way s a b x (l .is-admitted) k)
 
-    pub painted : {q0 q1 q2 : List ℕ} → MappedPlanes (planned plan) a b q0 q1 q2 → FrameAfter way s a b Done q0 q1 q2
+    pub painted : {q0 q1 q2 : List ℕ} → MappedPlanes (rowPlanned plan) a b q0 q1 q2 → FrameAfter way s a b Done q0 q1 q2
     painted m = (sym (done way s a b x (l .is-admitted)), (mapped 0 (m .0), (mapped 1 (m .1 .0), mapped 2 (m .1 .1))))

@@ -53,7 +53,7 @@ pub fn convert_frame(
     match admit::admit_picture(call, s, width, height, input_stride, output, a0, a1, a2) {
         Admission::Admitted(served) => {
             paint::paint(
-                plan::rows::plan_rows(way, served),
+                row_plan::plan_rows(way, served),
                 size,
                 a0,
                 a1,

@@ -3,16 +3,16 @@ ghost use Prim.Native.Nat.{_+_};
 ghost use lib.ListN.{length};
 ghost use Rattle.planes.specs.Picture.{picture, layoutOf, EveryPixel};
 ghost use Rattle.planes.specs.Sizes.{layout, Long, Fits};
-ghost use Rattle.plan.specs.Plan.{planned, Roomy, Takes};
+ghost use Rattle.row_plan.specs.RowPlan.{rowPlanned, RowRoomy, RowTakes};
 ghost use Rattle.convert.specs.Row.{rowPart, EveryOf};
 ghost use Rattle.frame.specs.Frame.{inputPicture, outputLayout, MappedPlanes, RowsPut};
 use crate::Size;
-use plan::Plan;
 use planes::size::row_start;
+use row_plan::RowPlan;
 
 // One row, from index `from` of the planes that are read to index `to` of those that are written.
 fn paint_row(
-    plan: Plan,
+    plan: RowPlan,
     width: usize,
     from: usize,
     to: usize,
@@ -23,16 +23,16 @@ fn paint_row(
     b1: &mut [u16],
     b2: &mut [u16],
 )
-    requires { ⌜ Roomy plan ⌝ }
+    requires { ⌜ RowRoomy plan ⌝ }
     requires { ⌜ Long (from + width) (length (now a0)) (length (now a1)) (length (now a2)) ⌝ }
     requires { ⌜ Long (to + width) (length (now b0)) (length (now b1)) (length (now b2)) ⌝ }
-    requires { ⌜ EveryOf (Takes plan) (rowPart (now a0) from width) (rowPart (now a1) from width) (rowPart (now a2) from width) ⌝ }
-    ensures { λ _. ⌜ RowsPut (planned plan) from to width (now (a0 .entry)) (now (a1 .entry)) (now (a2 .entry))
+    requires { ⌜ EveryOf (RowTakes plan) (rowPart (now a0) from width) (rowPart (now a1) from width) (rowPart (now a2) from width) ⌝ }
+    ensures { λ _. ⌜ RowsPut (rowPlanned plan) from to width (now (a0 .entry)) (now (a1 .entry)) (now (a2 .entry))
         (now (b0 .entry)) (now (b1 .entry)) (now (b2 .entry)) (now (b0 .exit)) (now (b1 .exit)) (now (b2 .exit)) ⌝ }
 {
     let from_end = from + width;
     let to_end = to + width;
-    convert::row::convert_row(
+    rows::convert_row(
         plan,
         &a0[from..from_end],
         &a1[from..from_end],
@@ -45,7 +45,7 @@ fn paint_row(
 
 // Row by row, with zeros between them and after them.
 fn paint_rows(
-    plan: Plan,
+    plan: RowPlan,
     size: Size,
     a0: &[u16],
     a1: &[u16],
@@ -54,11 +54,11 @@ fn paint_rows(
     b1: &mut [u16],
     b2: &mut [u16],
 )
-    requires { ⌜ Roomy plan ⌝ }
+    requires { ⌜ RowRoomy plan ⌝ }
     requires { ⌜ Fits (size .width) (size .height) (layoutOf (inputPicture size (now a0) (now a1) (now a2))) ⌝ }
     requires { ⌜ Fits (size .width) (size .height) (outputLayout size (length (now b0)) (length (now b1)) (length (now b2))) ⌝ }
-    requires { ⌜ EveryPixel (Takes plan) (inputPicture size (now a0) (now a1) (now a2)) ⌝ }
-    ensures { λ _. ⌜ MappedPlanes (planned plan) (inputPicture size (now (a0 .entry)) (now (a1 .entry)) (now (a2 .entry)))
+    requires { ⌜ EveryPixel (RowTakes plan) (inputPicture size (now a0) (now a1) (now a2)) ⌝ }
+    ensures { λ _. ⌜ MappedPlanes (rowPlanned plan) (inputPicture size (now (a0 .entry)) (now (a1 .entry)) (now (a2 .entry)))
         (outputLayout size (length (now (b0 .entry))) (length (now (b1 .entry))) (length (now (b2 .entry))))
         (now (b0 .exit)) (now (b1 .exit)) (now (b2 .exit)) ⌝ }
 {
@@ -79,7 +79,7 @@ fn paint_rows(
 
 // All rows as one, where nothing lies between them on either side, with zeros after them.
 fn paint_whole(
-    plan: Plan,
+    plan: RowPlan,
     width: usize,
     height: usize,
     a0: &[u16],
@@ -89,11 +89,11 @@ fn paint_whole(
     b1: &mut [u16],
     b2: &mut [u16],
 )
-    requires { ⌜ Roomy plan ⌝ }
+    requires { ⌜ RowRoomy plan ⌝ }
     requires { ⌜ Fits width height (layoutOf (picture width height width (now a0) (now a1) (now a2))) ⌝ }
     requires { ⌜ Fits width height (layout width (length (now b0)) (length (now b1)) (length (now b2))) ⌝ }
-    requires { ⌜ EveryPixel (Takes plan) (picture width height width (now a0) (now a1) (now a2)) ⌝ }
-    ensures { λ _. ⌜ MappedPlanes (planned plan) (picture width height width (now (a0 .entry)) (now (a1 .entry)) (now (a2 .entry)))
+    requires { ⌜ EveryPixel (RowTakes plan) (picture width height width (now a0) (now a1) (now a2)) ⌝ }
+    ensures { λ _. ⌜ MappedPlanes (rowPlanned plan) (picture width height width (now (a0 .entry)) (now (a1 .entry)) (now (a2 .entry)))
         (layout width (length (now (b0 .entry))) (length (now (b1 .entry))) (length (now (b2 .entry))))
         (now (b0 .exit)) (now (b1 .exit)) (now (b2 .exit)) ⌝ }
 {
@@ -104,7 +104,7 @@ fn paint_whole(
 
 // Every element of the output planes: the rows of the picture, and zeros between them and after them.
 pub fn paint(
-    plan: Plan,
+    plan: RowPlan,
     size: Size,
     a0: &[u16],
     a1: &[u16],
@@ -113,11 +113,11 @@ pub fn paint(
     b1: &mut [u16],
     b2: &mut [u16],
 )
-    requires { ⌜ Roomy plan ⌝ }
+    requires { ⌜ RowRoomy plan ⌝ }
     requires { ⌜ Fits (size .width) (size .height) (layoutOf (inputPicture size (now a0) (now a1) (now a2))) ⌝ }
     requires { ⌜ Fits (size .width) (size .height) (outputLayout size (length (now b0)) (length (now b1)) (length (now b2))) ⌝ }
-    requires { ⌜ EveryPixel (Takes plan) (inputPicture size (now a0) (now a1) (now a2)) ⌝ }
-    ensures { λ _. ⌜ MappedPlanes (planned plan) (inputPicture size (now (a0 .entry)) (now (a1 .entry)) (now (a2 .entry)))
+    requires { ⌜ EveryPixel (RowTakes plan) (inputPicture size (now a0) (now a1) (now a2)) ⌝ }
+    ensures { λ _. ⌜ MappedPlanes (rowPlanned plan) (inputPicture size (now (a0 .entry)) (now (a1 .entry)) (now (a2 .entry)))
         (outputLayout size (length (now (b0 .entry))) (length (now (b1 .entry))) (length (now (b2 .entry))))
         (now (b0 .exit)) (now (b1 .exit)) (now (b2 .exit)) ⌝ }
 {

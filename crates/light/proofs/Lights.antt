@@ -1,5 +1,5 @@
 -- Lights of samples within depth stay within reach, so numbers that have room at the end of it have room everywhere.
-use mathlib.Core.Path.{_≡_, ap, _∙_}
+use mathlib.Core.Path.{_≡_, sym, ap, _∙_}
 use Prim.Native.Nat.{ℕ, _+_, _*_, _-_, _/_, _^_, _≤_, _<_}
 use native.Mathlib.Nat.{mul-le-mul-left}
 use native.Mathlib.Omega.{arith}
@@ -8,12 +8,13 @@ use lib.Pow.{pow-pos}
 use Rattle.rounding.specs.Rounding.{round, clip}
 use Rattle.rounding.proofs.Lifted.{div-mono}
 use Rattle.sample.specs.declared.Pixel.{Pixel}
-use Rattle.levels.specs.Lines.{added, taken, lineSample}
+use Rattle.levels.specs.Lines.{added, taken, lineSample, linesPixel}
 use Rattle.levels.specs.declared.lines.Line.{Line}
+use Rattle.levels.specs.declared.lines.Lines.{Lines}
 use Rattle.levels.proofs.Numerators.{sample-in-parts}
 use Rattle.light.specs.Scaled.{wholeOf, scaledSample, Fits}
 use Rattle.sample.specs.Depth.{UpTo}
-use Rattle.light.specs.Light.{Weighs, Plane}
+use Rattle.light.specs.Light.{lightBy, lightPixel, Weighs, Plane, Stands}
 use Rattle.light.specs.declared.Light.{Light}
 use Rattle.light.specs.declared.scaled.Scaled.{Scaled}
 use Rattle.light.proofs.Scaling.{scaled-is}
@@ -46,10 +47,23 @@ lit {k} w p h =
     }
 
 -- the sample of a plane is its line's
-pub plane-is : {l : Line} {most reach : ℕ} {n : Pixel → ℕ} {s : Scaled} → Plane l most n reach s → (p : Pixel) → UpTo most p → (i : ℕ) → i ≡ n p → i ≤ reach
-    → scaledSample s i ≡ lineSample l p
-plane-is {l} h p w i e k =
-    rw e
-    (scaled-is (h .scales) _ (rw (← e) k) (added l p) (taken l p) (h .follows .each p w)
+plane-is : {l : Line} {most reach : ℕ} {n : Pixel → ℕ} {s : Scaled} → Plane l most n reach s → (p : Pixel) → UpTo most p → n p ≤ reach
+    → scaledSample s (n p) ≡ lineSample l p
+plane-is {l} h p w k =
+    scaled-is (h .scales) _ k (added l p) (taken l p) (h .follows .each p w)
     ∙ ap (λ d. clip (l .top) (round (pos (added l p) -ℤ pos (taken l p)) d +ℤ pos (l .mid))) (h .follows .over-is)
-    ∙ sample-in-parts l p)
+    ∙ sample-in-parts l p
+
+-- a colour is no further from the light than twice the largest
+in-reach : (a b c v most bias light : ℕ) → bias ≡ (a + b + c) * most → v ≤ most → (a + b + c) * v + bias - light ≤ 2 * bias
+in-reach a b c v most bias light e h = let l = mul-le-mul-left (a + b + c) h in omega arith
+
+-- so numbers that stand for three lines give their pixels
+pub light-is : {l : Lines} {k : Light} → Stands l k → (p : Pixel) → UpTo (k .most) p → lightPixel k p ≡ linesPixel l p
+light-is {l} {k} h p w =
+    let t = lit (h .fits .weighs) p w in
+    let bias = h .fits .weighs .bias-is ∙ ap (λ n. n * k .most) (sym (h .fits .weighs .sum)) in
+    let first = plane-is (h .luma) p w (omega arith) in
+    let second = plane-is (h .blue) p w (in-reach (k .kr) (k .kg) (k .kb) (p .p2) (k .most) (k .bias) (lightBy (k .kr) (k .kg) (k .kb) p) bias (w .p2-in)) in
+    let third = plane-is (h .red) p w (in-reach (k .kr) (k .kg) (k .kb) (p .p0) (k .most) (k .bias) (lightBy (k .kr) (k .kg) (k .kb) p) bias (w .p0-in)) in
+    λ i. record { p0 = first i; p1 = second i; p2 = third i }

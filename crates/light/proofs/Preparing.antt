@@ -31,10 +31,15 @@ module _ (lines : Lines) {k : Weights} {luma blue red : Scaled} (most : ℕ) (mo
       let few = bias-in (k .all) most (w .all-in) most-in in
       rw (t .is) (
         record {
-          weighs = record { sum = w .sum; bias-is = refl; bias-in = omega arith };
-          luma = record { run = y .run; follows = luma-follows most w (y .is); scales = y .scales; fits = y .fits };
-          blue = record { run = b .run; follows = blue-follows (k .kr) (k .kg) (k .kb) most _ bias (b .is); scales = b .scales; fits = b .fits };
-          red = record { run = r .run; follows = red-follows (k .kr) (k .kg) (k .kb) most _ bias (r .is); scales = r .scales; fits = r .fits };
+          fits = record {
+            weighs = record { sum = w .sum; bias-is = refl; bias-in = omega arith };
+            luma = y .fits;
+            blue = b .fits;
+            red = r .fits;
+          };
+          luma = record { run = y .run; follows = luma-follows most w (y .is); scales = y .scales };
+          blue = record { run = b .run; follows = blue-follows (k .kr) (k .kg) (k .kb) most _ bias (b .is); scales = b .scales };
+          red = record { run = r .run; follows = red-follows (k .kr) (k .kg) (k .kb) most _ bias (r .is); scales = r .scales };
         },
         refl,
       )

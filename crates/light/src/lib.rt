@@ -7,10 +7,8 @@ pub mod scaled;
 
 ghost use mathlib.Core.Path.{_≡_};
 ghost use Prim.Native.Nat.{_+_, _-_, _*_, _≤_};
-ghost use Rattle.levels.specs.Lines.{linesPixel};
 ghost use Rattle.sample.specs.Depth.{UpTo};
-ghost use Rattle.light.specs.Light.{lightBy, Weighs, Stands};
-use levels::lines::Lines;
+ghost use Rattle.light.specs.Light.{lightBy, lightPixel, Weighs, LightFits};
 use sample::Pixel;
 use scaled::Scaled;
 
@@ -57,11 +55,11 @@ fn away(by: Light, v: u16, light: u32) -> u32
     all * v + bias - light
 }
 
-// The pixel by its lines.
-pub fn pixel_of(lines: Lines, by: Light, p: Pixel) -> Pixel
-    requires { ⌜ Stands lines by ⌝ }
+// The three samples.
+pub fn pixel_of(by: Light, p: Pixel) -> Pixel
+    requires { ⌜ LightFits by ⌝ }
     requires { ⌜ UpTo (by .most) p ⌝ }
-    ensures { λ r. ⌜ r ≡ linesPixel lines p ⌝ }
+    ensures { λ r. ⌜ r ≡ lightPixel by p ⌝ }
 {
     let luma = by.luma;
     let blue = by.blue;

@@ -1,7 +1,7 @@
 -- The plan of a setting that is not refused is the plan of its conversion: what each kind of formulas asks is what such a setting has.
-use mathlib.Core.Path.{_≡_, refl, sym, subst, _∙_}
+use mathlib.Core.Path.{_≡_, refl, sym, subst}
 use mathlib.Core.Bool.{Bool, true, false, cond}
-use Prim.Native.Nat.{ℕ, _≤_}
+use Prim.Native.Nat.{_≤_}
 use borrow.Author.Tests.{ltb-true}
 use lib.Dec.{ltb}
 use Rattle.sample.specs.Depth.{ThreeDepths}
@@ -10,10 +10,8 @@ use Rattle.sample.specs.declared.Pixel.{Pixel}
 use Rattle.sample.specs.declared.Side.{Side}
 use Rattle.ycgco.specs.YCgCo.{LossyDepths, LosslessDepths}
 use Rattle.levels.specs.Conversion.{MatrixFits, LevelDepths}
-use Rattle.levels.specs.Room.{AllReady}
 use Rattle.levels.specs.declared.LevelSetting.{LevelSetting}
 use Rattle.levels.specs.declared.equations.LevelMatrix.{LevelMatrix}
-use Rattle.levels.specs.declared.lines.Lines.{Lines}
 use Rattle.levels.proofs.Bounds.{samples-fit}
 use Rattle.levels.proofs.Fitting.{forward-ready, reverse-ready}
 use Rattle.levels.proofs.Pixels.{forward-law, reverse-law}
@@ -26,9 +24,7 @@ use Rattle.setting.specs.declared.matrix.Formulas.{Formulas}
 use Rattle.setting.specs.declared.matrix.Formulas.the-variants.{ChangePlaces, YCgCo, Levels}
 use Rattle.plan.specs.Conversion.{changePlaces, lossy, lossless, ycgcoBy, levelsBy, convertBy, convert}
 use Rattle.plan.specs.Plan.{placesPlan, lossyPlan, losslessPlan, ycgcoPlan, levelsPlan, planBy, planOf, Plans}
-use Rattle.plan.specs.Rows.{MostRead, RowsOf}
 use Rattle.plan.specs.declared.Plan.{Plan}
-use Rattle.plan.specs.declared.Plan.the-variants as plan
 use Rattle.plan.proofs.ConversionTheorems.{lossless-depths, lossy-depths}
 
 places-plans : (way : Way) (d : Depths) → Plans (changePlaces way) (inputOf way) d (placesPlan way)
@@ -81,12 +77,3 @@ plans way s r = plans-by way (s .formulas) s (r .three) (r .agreed)
 -- and so is what equals it
 pub plans-as : (way : Way) (s : Served) {x : Plan} → x ≡ planOf way s → Ready s → Plans (convert way s) (inputOf way) (s .depths) x
 plans-as way s e r = subst (Plans (convert way s) (inputOf way) (s .depths)) (sym e) (plans way s r)
-
--- a plan that does what three lines do serves where they serve
-pub quickened : {f : Pixel → Pixel} {side : Side} {d : Depths} {l : Lines} {most : ℕ} {x : Plan} → Plans f side d (plan.Lines l) → MostRead side d most → RowsOf l most x
-    → Plans f side d x
-quickened k m h = record { roomy = h .roomy; takes = λ p i. h .takes p (k .takes p i) (m .each p i); is = λ p. h .is p ∙ k .is p }
-
--- and so do the lines themselves
-pub as-they-are : {l : Lines} {most : ℕ} → AllReady l → RowsOf l most (plan.Lines l)
-as-they-are r = record { roomy = r; takes = λ p h w. h; is = λ p. refl }

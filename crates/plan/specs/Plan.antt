@@ -2,7 +2,7 @@
 use mathlib.Core.Path.{_≡_}
 use mathlib.Core.Bool.{cond}
 use lib.Dec.{ltb}
-use Rattle.sample.specs.Depth.{InsideRGB, InsideOf, UpTo}
+use Rattle.sample.specs.Depth.{InsideRGB, InsideOf}
 use Rattle.sample.specs.declared.Depths.{Depths}
 use Rattle.sample.specs.declared.Pixel.{Pixel}
 use Rattle.sample.specs.declared.Side.{Side}
@@ -10,13 +10,8 @@ use Rattle.ycgco.specs.YCgCo.{lossyForward, lossyReverse, losslessForward, loss
 use Rattle.levels.specs.Conversion.{SamplesFit}
 use Rattle.levels.specs.Lines.{forwardLines, reverseLines, linesPixel}
 use Rattle.levels.specs.Room.{AllReady}
-use Rattle.fixed.specs.Numbers.{Stands}
-use Rattle.fixed.specs.Words.{numbersOf, WordsFit}
-use Rattle.fixed.specs.declared.words.Words as words
-use Rattle.light.specs.Light as light
 use Rattle.levels.specs.declared.LevelSetting.{LevelSetting}
 use Rattle.levels.specs.declared.equations.LevelMatrix.{LevelMatrix}
-use Rattle.levels.specs.declared.lines.Line.{Line}
 use Rattle.setting.specs.Ready.{levelSetting}
 use Rattle.setting.specs.declared.Way.{Way}
 use Rattle.setting.specs.declared.Way.the-variants.{Forward, Reverse}
@@ -25,8 +20,7 @@ use Rattle.setting.specs.declared.matrix.Formulas.{Formulas}
 use Rattle.setting.specs.declared.matrix.Formulas.the-variants.{ChangePlaces, YCgCo, Levels}
 use Rattle.plan.specs.Conversion.{changePlaces}
 use Rattle.plan.specs.declared.Plan.{Plan}
-use Rattle.plan.specs.declared.WordLines.{WordLines}
-use Rattle.plan.specs.declared.Plan.the-variants.{PlacesForward, PlacesReverse, LossyForward, LossyReverse, LosslessForward, LosslessReverse, Lines, Light, Words}
+use Rattle.plan.specs.declared.Plan.the-variants.{PlacesForward, PlacesReverse, LossyForward, LossyReverse, LosslessForward, LosslessReverse, Lines}
 
 -- planes change places
 abbrev pub placesPlan : Way → Plan
@@ -68,24 +62,6 @@ planned (LossyReverse d) p = lossyReverse d p
 planned (LosslessForward d) p = losslessForward d p
 planned (LosslessReverse d) p = losslessReverse d p
 planned (Lines l) p = linesPixel l p
-planned (Light l) p = linesPixel (l .lines) p
-planned (Words l) p = linesPixel (l .lines) p
-
--- words that have room and stand for a line, and the three of a plan
-pub record WordReady (l : Line) (w : words.Words) : Type 0 where
-  pub fits : WordsFit w
-  pub stands : Stands l (numbersOf w)
-
-pub record WordsReady (l : WordLines) : Type 0 where
-  pub first : WordReady (l .lines .first .line) (l .first)
-  pub second : WordReady (l .lines .second .line) (l .second)
-  pub third : WordReady (l .lines .third .line) (l .third)
-
--- a pixel that each of them takes
-pub record UpToWords (l : WordLines) (p : Pixel) : Type 0 where
-  pub first : UpTo (l .first .most) p
-  pub second : UpTo (l .second .most) p
-  pub third : UpTo (l .third .most) p
 
 -- numbers that the code has room for
 abbrev pub Roomy : Plan → Type 0
@@ -96,8 +72,6 @@ Roomy (LossyReverse d) = LossyDepths d
 Roomy (LosslessForward d) = LosslessDepths d
 Roomy (LosslessReverse d) = LosslessDepths d
 Roomy (Lines l) = AllReady l
-Roomy (Light l) = AllReady (l .lines) × light.Stands (l .lines) (l .light)
-Roomy (Words l) = AllReady (l .lines) × WordsReady l
 
 -- a pixel that the code takes
 abbrev pub Takes : Plan → Pixel → Type 0
@@ -108,8 +82,6 @@ Takes (LossyReverse d) p = Unit
 Takes (LosslessForward d) p = InsideRGB d p
 Takes (LosslessReverse d) p = Unit
 Takes (Lines l) p = SamplesFit p
-Takes (Light l) p = SamplesFit p × UpTo (l .light .most) p
-Takes (Words l) p = SamplesFit p × UpToWords l p
 
 -- the plan of a conversion f that reads samples of one side within depth
 pub record Plans (f : Pixel → Pixel) (side : Side) (d : Depths) (x : Plan) : Type 0 where

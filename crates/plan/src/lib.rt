@@ -1,15 +1,11 @@
 // What a served setting does, decided once: one value with all that a loop over pixels needs.
-pub mod rows;
-
 ghost use mathlib.Core.Path.{_≡_};
 ghost use Rattle.levels.specs.Conversion.{MatrixFits, LevelDepths};
 ghost use Rattle.setting.specs.Ready.{Ready};
 ghost use Rattle.plan.specs.Plan.{placesPlan, lossyPlan, losslessPlan, ycgcoPlan, levelsPlan, planOf};
-use fixed::words::Words;
 use levels::LevelSetting;
 use levels::equations::LevelMatrix;
 use levels::lines::Lines;
-use light::Light;
 use sample::Depths;
 use setting::Way;
 use setting::admission::Served;
@@ -25,22 +21,6 @@ pub enum Plan {
     LosslessReverse(Depths),
     // a level matrix, either way
     Lines(Lines),
-    // the same lines, for many pixels: a luma matrix forward, and any other
-    Light(LightLines),
-    Words(WordLines),
-}
-
-// Lines, and the numbers that stand for them.
-pub struct LightLines {
-    pub lines: Lines,
-    pub light: Light,
-}
-
-pub struct WordLines {
-    pub lines: Lines,
-    pub first: Words,
-    pub second: Words,
-    pub third: Words,
 }
 
 fn plan_places(way: Way) -> Plan

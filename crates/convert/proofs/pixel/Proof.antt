@@ -24,16 +24,6 @@ pixel-of-requires c κs =
     let s = c .before .before .before in
     (subst Roomy (c .before .plan5 .given .1) (s .pre .0), subst (λ x. Takes x (s .args .p)) (c .before .plan5 .given .1) (s .pre .1))
 
-pixel-of-requires-2 : tie.Need-pixel-of-requires-2
-pixel-of-requires-2 c κs =
-    let s = c .before .before .before in
-    (subst Roomy (c .before .plan6 .given .1) (s .pre .0) .0, subst (λ x. Takes x (s .args .p)) (c .before .plan6 .given .1) (s .pre .1) .0)
-
-pixel-of-requires-3 : tie.Need-pixel-of-requires-3
-pixel-of-requires-3 c κs =
-    let s = c .before .before .before in
-    (subst Roomy (c .before .plan7 .given .1) (s .pre .0) .0, subst (λ x. Takes x (s .args .p)) (c .before .plan7 .given .1) (s .pre .1) .0)
-
 returns : tie.Need-returns
 returns c = rw (c .enum-told .given .1)
 
@@ -55,16 +45,9 @@ returns-6 c = rw (c .before .before .plan4 .given .1) (c .lossless-reverse .ensu
 returns-7 : tie.Need-returns-7
 returns-7 c = rw (c .before .before .plan5 .given .1) (c .pixel-of .ensures)
 
-returns-8 : tie.Need-returns-8
-returns-8 c = rw (c .before .before .plan6 .given .1) (c .pixel-of2 .ensures)
-
-returns-9 : tie.Need-returns-9
-returns-9 c = rw (c .before .before .plan7 .given .1) (c .pixel-of3 .ensures)
-
 pub pixel-spec : {M : Type 1} → statement M
 pixel-spec =
     tie.close
     (tie.spec (λ c. search needs) (λ c. search needs) (λ c. search needs) lossy-forward-requires (λ c. search needs)
     lossy-reverse-requires (λ c. search needs) lossless-forward-requires (λ c. search needs) lossless-reverse-requires
-    (λ c. search needs) pixel-of-requires (λ c. search needs) pixel-of-requires-2 (λ c. search needs) pixel-of-requires-3 returns returns-2
-    returns-3 returns-4 returns-5 returns-6 returns-7 returns-8 returns-9)
+    (λ c. search needs) pixel-of-requires returns returns-2 returns-3 returns-4 returns-5 returns-6 returns-7)

@@ -45,20 +45,6 @@ by-lines-requires c κs =
     let e = c .before .before .before .before .plan5 .given .1 in
     (subst Roomy e (s .pre .0), (s .pre .1 .0, all-taken (s .args .a0 .now) (s .args .a1 .now) (s .args .a2 .now) e (s .pre .1 .1)))
 
-by-light-requires : tie.Need-by-light-requires
-by-light-requires c κs =
-    let s = c .before .before .before .before .before .before .before .before .before .before .before .before in
-    let e = c .before .before .before .before .plan6 .given .1 in
-    let taken = all-taken (s .args .a0 .now) (s .args .a1 .now) (s .args .a2 .now) e (s .pre .1 .1) in
-    (subst Roomy e (s .pre .0) .1, (s .pre .1 .0, λ i h. taken i h .1))
-
-by-words-requires : tie.Need-by-words-requires
-by-words-requires c κs =
-    let s = c .before .before .before .before .before .before .before .before .before .before .before .before in
-    let e = c .before .before .before .before .plan7 .given .1 in
-    let taken = all-taken (s .args .a0 .now) (s .args .a1 .now) (s .args .a2 .now) e (s .pre .1 .1) in
-    (subst Roomy e (s .pre .0) .1, (s .pre .1 .0, λ i h. taken i h .1))
-
 returns : tie.Need-returns
 returns c =
     let s = c .before .before .before .before .before .before .before .before .before .before .before .before .before .before .before .before .before .before in
@@ -98,25 +84,13 @@ returns-7 c =
     let e = c .before .before .before .before .before .before .before .before .before .before .before .plan5 .given .1 in
     rw e (c .before .before .before .before .before .before .by-lines .ensures)
 
-returns-8 : tie.Need-returns-8
-returns-8 c =
-    let e = c .before .before .before .before .before .before .before .before .before .before .before .plan6 .given .1 in
-    rw e (c .before .before .before .before .before .before .by-light .ensures)
-
-returns-9 : tie.Need-returns-9
-returns-9 c =
-    let e = c .before .before .before .before .before .before .before .before .before .before .before .plan7 .given .1 in
-    rw e (c .before .before .before .before .before .before .by-words .ensures)
-
 pub convert-row-spec : {M : Type 1} → statement M
 convert-row-spec =
     tie.close
     (tie.spec (λ c. search needs) (λ c κs. search needs) (λ c. search needs) (λ c κs. search needs) (λ c. search needs)
     lossy-forward-requires (λ c. search needs) lossy-reverse-requires (λ c. search needs) lossless-forward-requires
-    (λ c. search needs) lossless-reverse-requires (λ c. search needs) by-lines-requires (λ c. search needs) by-light-requires
-    (λ c. search needs) by-words-requires (λ c. search needs)
+    (λ c. search needs) lossless-reverse-requires (λ c. search needs) by-lines-requires (λ c. search needs)
     (λ c. search needs) (λ c. search needs) returns (λ c. search needs) (λ c. search needs) (λ c. search needs) returns-2
     (λ c. search needs) (λ c. search needs) (λ c. search needs) returns-3 (λ c. search needs) (λ c. search needs)
     (λ c. search needs) returns-4 (λ c. search needs) (λ c. search needs) (λ c. search needs) returns-5 (λ c. search needs)
-    (λ c. search needs) (λ c. search needs) returns-6 (λ c. search needs) (λ c. search needs) (λ c. search needs) returns-7
-    (λ c. search needs) (λ c. search needs) (λ c. search needs) returns-8 (λ c. search needs) (λ c. search needs) (λ c. search needs) returns-9)
+    (λ c. search needs) (λ c. search needs) returns-6 (λ c. search needs) (λ c. search needs) (λ c. search needs) returns-7)

@@ -5,7 +5,7 @@ use borrow.Author.Needs.{needs}
 use lib.ListN.{length}
 use Rattle.planes.specs.Picture.{picture}
 use Rattle.planes.specs.Sizes.{layout}
-use Rattle.plan.specs.Plan.{planned, Takes}
+use Rattle.row_plan.specs.RowPlan.{rowPlanned, RowTakes}
 use Rattle.frame.specs.Frame.{inputPicture, outputLayout}
 use Rattle.frame.proofs.PaintLaws.{Painting, painting-none, Turn, output-long, row-lent, painting-more, rest-long, painting-end}
 use Rattle.frame.proofs.paint.paint_rows.Statement.{statement}
@@ -13,7 +13,7 @@ use Rattle.frame.proofs.paint.paint_rows.Tie as tie
 
 abbrev Inv-loop : tie.InvT-loop
 Inv-loop plan a0 a1 a2 b0₀ b1₀ b2₀ width height input-stride output-stride done₀ j₀ b0 b1 b2 done j =
-    Painting (planned plan) (picture width height input-stride a0 a1 a2) (layout output-stride (length b0₀) (length b1₀) (length b2₀)) b0 b1 b2 j done
+    Painting (rowPlanned plan) (picture width height input-stride a0 a1 a2) (layout output-stride (length b0₀) (length b1₀) (length b2₀)) b0 b1 b2 j done
 
 abbrev μ-loop : tie.MeasureT-loop
 μ-loop plan a0 a1 a2 b0₀ b1₀ b2₀ width height input-stride output-stride done₀ j₀ b0 b1 b2 done j = height - j
@@ -22,7 +22,7 @@ abbrev μ-loop : tie.MeasureT-loop
 turn : (c : tie.After-row-start2 Inv-loop μ-loop)
     → let x = c .before .before .before .before .before .before .before .before .before .before .args in
     let l = c .before .before .before .loop in
-    Turn (planned (x .plan)) (inputPicture (x .size) (x .a0 .now) (x .a1 .now) (x .a2 .now))
+    Turn (rowPlanned (x .plan)) (inputPicture (x .size) (x .a0 .now) (x .a1 .now) (x .a2 .now))
     (outputLayout (x .size) (length (x .b0 .now)) (length (x .b1 .now)) (length (x .b2 .now)))
     (l .b0) (l .b1) (l .b2) (l .j) (l .done) (c .before .row-start .result) (c .row-start2 .result)
 turn c =
@@ -46,7 +46,7 @@ paint-row-requires c κs =
     let r = c .before .before .before .before .before .before .before .before .before .before .before .before .before in
     let s = r .before .before .before .before .before .before .before .before .before .before in
     let kept = c .before .before .before .before .before .before .before .before .before .zero-gap .kept in
-    (s .pre .0, row-lent (turn r) (Takes (s .args .plan)) (s .pre .1 .1 .1) (kept .0) (kept .1 .0) (kept .1 .1 .0))
+    (s .pre .0, row-lent (turn r) (RowTakes (s .args .plan)) (s .pre .1 .1 .1) (kept .0) (kept .1 .0) (kept .1 .1 .0))
 
 -- the start of a turn, from its end
 abbrev begun : tie.After-slice-known9 Inv-loop μ-loop → tie.After-row-start2 Inv-loop μ-loop

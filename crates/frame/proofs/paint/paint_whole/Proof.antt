@@ -7,7 +7,7 @@ use lib.ListN.{length}
 use Rattle.planes.specs.Picture.{Picture, picture}
 use Rattle.planes.specs.Sizes.{layout}
 use Rattle.planes.specs.declared.size.Layout.{Layout}
-use Rattle.plan.specs.Plan.{planned, Takes}
+use Rattle.row_plan.specs.RowPlan.{rowPlanned, RowTakes}
 use Rattle.frame.proofs.PaintLaws.{Whole, whole-taken, painting-whole, painting-end}
 use Rattle.frame.proofs.paint.paint_whole.Statement.{statement}
 use Rattle.frame.proofs.paint.paint_whole.Tie as tie
@@ -33,13 +33,13 @@ whole c =
 paint-row-requires : tie.Need-paint-row-requires
 paint-row-requires c κs =
     let s = c .before .before .before .before .before .before .before .before .before .before in
-    (s .pre .0, whole-taken (whole (c .before .before .before)) (Takes (s .args .plan)) (s .pre .1 .1 .1))
+    (s .pre .0, whole-taken (whole (c .before .before .before)) (RowTakes (s .args .plan)) (s .pre .1 .1 .1))
 
 returns : tie.Need-returns
 returns c =
     let s = c .before .before .before .before .before .before .before .before .before .before .before .before .before .before .before .before .before .before .before .before .before .before .before .before .before .before .before in
     let put = c .before .before .before .before .before .before .before .before .before .before .before .before .before .before .before .before .paint-row .ensures in
-    painting-end (painting-whole (whole (c .before .before .before .before .before .before .before .before .before .before .before .before .before .before .before .before .before .before .before .before)) {f = planned (s .args .plan)} (s .args .b0 .now) (s .args .b1 .now) (s .args .b2 .now) refl refl refl put) (omega arith)
+    painting-end (painting-whole (whole (c .before .before .before .before .before .before .before .before .before .before .before .before .before .before .before .before .before .before .before .before)) {f = rowPlanned (s .args .plan)} (s .args .b0 .now) (s .args .b1 .now) (s .args .b2 .now) refl refl refl put) (omega arith)
     (c .before .before .before .before .before .before .zero-rest .ensures)
 
 pub paint-whole-spec : {M : Type 1} → statement M

@@ -1,0 +1,2 @@
+-- Laws of plans for many pixels.
+pub mod RowPlanLaws

@@ -1,0 +1,2 @@
+-- A plan for many pixels.
+pub mod RowPlan
