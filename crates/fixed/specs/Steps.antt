@@ -17,12 +17,7 @@ use Rattle.fixed.specs.declared.words.Words.{Words}
 use Rattle.fixed.specs.declared.words.Prepared.{Prepared}
 use Rattle.fixed.specs.declared.words.Prepared.the-variants.{Made, Nothing}
 
--- Reducing: r divides both; g divides twice a line's numbers, with the half that Round adds among them.
-pub record Common (a b r : ℕ) : Type 0 where
-  pub some : 0 < r
-  pub first : r ∣ a
-  pub second : r ∣ b
-
+-- Reducing: g divides twice a line's numbers, with the half that Round adds among them.
 pub record Factor (l : Line) (g : ℕ) : Type 0 where
   pub some : 0 < g
   pub over : g ∣ 2 * l .equation .over

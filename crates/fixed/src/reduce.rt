@@ -1,11 +1,12 @@
 // A line in lowest terms: twice its numbers, so that the half that Round adds is whole too, over what divides them all.
 use levels::lines::Line;
+use rounding::common::common;
 ghost use mathlib.Core.Path.{_≡_};
 ghost use Prim.Native.Nat.{_+_, _*_, _≤_, _<_, _∣_};
 ghost use Rattle.levels.specs.Conversion.{mostSample};
 ghost use Rattle.levels.specs.Room.{Room};
 ghost use Rattle.fixed.specs.Numbers.{distance};
-ghost use Rattle.fixed.specs.Steps.{Common, Factor, Turns, Turned, Parted, Reduces};
+ghost use Rattle.fixed.specs.Steps.{Factor, Turns, Turned, Parted, Reduces};
 
 // A weight without its sign: its size, its mark, and the product of the two.
 pub struct Size {
@@ -28,21 +29,6 @@ pub struct Reduced {
     pub third: Size,
     pub plus: u64,
     pub minus: u64,
-}
-
-// The largest number that divides both. That it divides is all that is said of it.
-pub fn common(a: u64, b: u64) -> u64
-    requires { ⌜ 0 < a ⌝ }
-    ensures { λ r. ⌜ Common a b r ⌝ }
-{
-    let mut x = a;
-    let mut y = b;
-    while 0 < y {
-        let rest = x % y;
-        x = y;
-        y = rest;
-    }
-    x
 }
 
 fn distance(p: u64, q: u64) -> u64

@@ -14,7 +14,9 @@ use Rattle.levels.specs.declared.lines.Lines.{Lines}
 use Rattle.levels.proofs.Numerators.{sample-in-parts}
 use Rattle.light.specs.Scaled.{wholeOf, scaledSample, Fits}
 use Rattle.sample.specs.Depth.{UpTo}
-use Rattle.light.specs.Light.{lightBy, lightPixel, Weighs, Plane, Stands}
+use Rattle.runs.specs.Light.{lightBy}
+use Rattle.runs.proofs.Mixing.{lit, in-reach}
+use Rattle.light.specs.Light.{lightPixel, Plane, Stands}
 use Rattle.light.specs.declared.Light.{Light}
 use Rattle.light.specs.declared.scaled.Scaled.{Scaled}
 use Rattle.light.proofs.Scaling.{scaled-is}
@@ -28,24 +30,6 @@ fits-before {s} {reach} f n l =
     let whole = f .whole-in in
     record { sum-in = omega arith; whole-in = omega arith; top-in = f .top-in; shift-in = f .shift-in }
 
--- each product of a light, at the largest sample
-pub record Lit (k : Light) (p : Pixel) : Type 0 where
-  pub first : k .kr * p .p0 ≤ k .kr * k .most
-  pub second : k .kg * p .p1 ≤ k .kg * k .most
-  pub third : k .kb * p .p2 ≤ k .kb * k .most
-  pub all : k .kr * k .most + k .kg * k .most + k .kb * k .most ≡ k .bias
-
-pub lit : {k : Light} → Weighs k → (p : Pixel) → UpTo (k .most) p → Lit k p
-lit {k} w p h =
-    let sum = ap (λ n. n * k .most) (w .sum) in
-    let most = w .bias-is in
-    record {
-      first = mul-le-mul-left (k .kr) (h .p0-in);
-      second = mul-le-mul-left (k .kg) (h .p1-in);
-      third = mul-le-mul-left (k .kb) (h .p2-in);
-      all = omega arith;
-    }
-
 -- the sample of a plane is its line's
 plane-is : {l : Line} {most reach : ℕ} {n : Pixel → ℕ} {s : Scaled} → Plane l most n reach s → (p : Pixel) → UpTo most p → n p ≤ reach
     → scaledSample s (n p) ≡ lineSample l p
@@ -54,16 +38,14 @@ plane-is {l} h p w k =
     ∙ ap (λ d. clip (l .top) (round (pos (added l p) -ℤ pos (taken l p)) d +ℤ pos (l .mid))) (h .follows .over-is)
     ∙ sample-in-parts l p
 
--- a colour is no further from the light than twice the largest
-in-reach : (a b c v most bias light : ℕ) → bias ≡ (a + b + c) * most → v ≤ most → (a + b + c) * v + bias - light ≤ 2 * bias
-in-reach a b c v most bias light e h = let l = mul-le-mul-left (a + b + c) h in omega arith
-
 -- so numbers that stand for three lines give their pixels
-pub light-is : {l : Lines} {k : Light} → Stands l k → (p : Pixel) → UpTo (k .most) p → lightPixel k p ≡ linesPixel l p
+pub light-is : {l : Lines} {k : Light} → Stands l k → (p : Pixel) → UpTo (k .mix .most) p → lightPixel k p ≡ linesPixel l p
 light-is {l} {k} h p w =
+    let m = k .mix in
     let t = lit (h .fits .weighs) p w in
-    let bias = h .fits .weighs .bias-is ∙ ap (λ n. n * k .most) (sym (h .fits .weighs .sum)) in
+    let bias = h .fits .weighs .bias-is ∙ ap (λ n. n * m .most) (sym (h .fits .weighs .sum)) in
+    let light = lightBy (m .kr) (m .kg) (m .kb) p in
     let first = plane-is (h .luma) p w (omega arith) in
-    let second = plane-is (h .blue) p w (in-reach (k .kr) (k .kg) (k .kb) (p .p2) (k .most) (k .bias) (lightBy (k .kr) (k .kg) (k .kb) p) bias (w .p2-in)) in
-    let third = plane-is (h .red) p w (in-reach (k .kr) (k .kg) (k .kb) (p .p0) (k .most) (k .bias) (lightBy (k .kr) (k .kg) (k .kb) p) bias (w .p0-in)) in
+    let second = plane-is (h .blue) p w (in-reach (m .kr) (m .kg) (m .kb) (p .p2) (m .most) (m .bias) light bias (w .p2-in)) in
+    let third = plane-is (h .red) p w (in-reach (m .kr) (m .kg) (m .kb) (p .p0) (m .most) (m .bias) light bias (w .p0-in)) in
     λ i. record { p0 = first i; p1 = second i; p2 = third i }

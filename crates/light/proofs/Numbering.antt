@@ -3,7 +3,7 @@ use mathlib.Core.Path.{_≡_}
 use Prim.Native.Nat.{ℕ, _+_, _*_, _/_, _≤_, _<_}
 use native.Mathlib.Nat.{mul-le-mul, mul-le-mul-left, mul-le-mul-right, lt-of-mul-lt-mul-left}
 use native.Mathlib.Omega.{arith}
-use Rattle.light.proofs.Dividing.{bounded}
+use Rattle.runs.proofs.Dividing.{bounded}
 
 pub start-below : (factor e half q start lift : ℕ) → 2 * (half * q) < factor * e → factor * start < 2 * (half * lift) → 0 < e → q * start < e * lift
 start-below factor e half q start lift h k some =
@@ -26,10 +26,6 @@ sums factor start reach half level lift spare room f-in r-in s-in low =
     let r : reach ≤ 1073741823 = omega arith in
     let s : start ≤ 1073741823 = omega arith in
     record { lifted = omega arith; at-start = mul-le-mul f s; at-end = mul-le-mul f r; below = omega arith }
-
--- a level is no more than what it is read off
-pub level-less : (level over up : ℕ) → 0 < over → level * over ≤ up → level ≤ up
-level-less level over up some h = let more : level * 1 ≤ level * over = mul-le-mul-left level some in omega arith
 
 -- a unit is sought past a number of few bits
 pub few-bits : (e reach spare : ℕ) → e ≤ 268435455 → reach < 1073741824 → spare ≤ 4294967295 → e * (reach + spare) ≤ 268435455 * 5368709118

@@ -1,49 +1,53 @@
 -- Planes whose numbers were found stand together for their lines.
-use mathlib.Core.Path.{_≡_, refl, sym, ap, subst, _∙_}
-use Prim.Native.Nat.{ℕ, _+_, _*_, _≤_, _<_}
-use native.Mathlib.Nat.{mul-le-mul}
+use mathlib.Core.Path.{_≡_, refl, sym, subst, _∙_}
+use Prim.Native.Nat.{ℕ, _*_, _≤_, _<_}
+use native.Mathlib.Nat.{one-mul}
 use native.Mathlib.Omega.{arith}
-use Rattle.levels.specs.Conversion.{mostSample}
 use Rattle.levels.specs.declared.lines.Lines.{Lines}
-use Rattle.light.specs.Found.{blueIn, redIn, Weighed, LumaPlane, ColourPlane, Together, Joined, Answered}
+use Rattle.runs.specs.Found.{RunsFound, Mixes}
+use Rattle.runs.specs.Light.{mixOf, Weighs}
+use Rattle.runs.specs.declared.Runs.{Runs}
+use Rattle.runs.specs.declared.mix.Mix.{Mix}
+use Rattle.runs.proofs.Mixing.{bias-in, weighs}
 use Rattle.light.specs.Light.{Stands}
+use Rattle.light.specs.Scaled.{Fits, Scales}
 use Rattle.light.specs.declared.Light.{Light}
-use Rattle.light.specs.declared.prepare.Answer.{Answer}
-use Rattle.light.specs.declared.prepare.Answer.the-variants.{Made, Nothing}
-use Rattle.light.specs.declared.runs.Weights.{Weights}
 use Rattle.light.specs.declared.scaled.Scaled.{Scaled}
-use Rattle.light.proofs.Following.{luma-follows, blue-follows, red-follows}
 
--- the largest light has few bits
-pub bias-in : (all most : ℕ) → all ≤ 65535 → most ≤ mostSample → all * most ≤ 65535 * 4095
-bias-in all most h k = mul-le-mul h k
+-- weights that are taken once
+module _ {lines : Lines} {r : Runs} (f : RunsFound lines r) where
+  pub mixes : Mixes r 1
+  mixes = let a = f .all-in in record { sum = f .sum; bias-is = f .bias-is; all-in = omega arith; most-in = f .most-in }
 
-module _ (lines : Lines) {k : Weights} {luma blue red : Scaled} (most : ℕ) (most-in : most ≤ mostSample) (w : Weighed (lines .first .line .equation) k)
-    (first : 0 < luma .factor → LumaPlane (lines .first .line) (k .times) (k .all * most) luma)
-    (second : 0 < blue .factor → ColourPlane (blueIn (lines .second .line .equation)) (k .kr) (k .kg) (k .all * most) (lines .second .line) blue)
-    (third : 0 < red .factor → ColourPlane (redIn (lines .third .line .equation)) (k .kg) (k .kb) (k .all * most) (lines .third .line) red) where
-  together : (l : Light) → Together k most luma blue red l → Stands lines l × (l .most ≡ most)
-  together l t =
-      let y = first (t .luma-some) in
-      let b = second (t .blue-some) in
-      let r = third (t .red-some) in
-      let bias : k .all * most ≡ (k .kr + k .kg + k .kb) * most = ap (λ n. n * most) (sym (w .sum)) in
-      let few = bias-in (k .all) most (w .all-in) most-in in
-      rw (t .is) (
-        record {
-          fits = record {
-            weighs = record { sum = w .sum; bias-is = refl; bias-in = omega arith };
-            luma = y .fits;
-            blue = b .fits;
-            red = r .fits;
-          };
-          luma = record { run = y .run; follows = luma-follows most w (y .is); scales = y .scales };
-          blue = record { run = b .run; follows = blue-follows (k .kr) (k .kg) (k .kb) most _ bias (b .is); scales = b .scales };
-          red = record { run = r .run; follows = red-follows (k .kr) (k .kg) (k .kb) most _ bias (r .is); scales = r .scales };
-        },
-        refl,
-      )
+  pub bias-few : r .bias ≤ 65535 * 4095
+  bias-few = let b = bias-in (r .all) (r .most) (f .all-in) (f .most-in) in let is = f .bias-is in omega arith
 
-  pub answered : (a : Answer) → Joined k most luma blue red a → Answered lines most a
-  answered (Made l) t = together l t
-  answered Nothing t = tt
+  once : mixOf r 1 ≡ record { kr = r .kr; kg = r .kg; kb = r .kb; all = r .all; most = r .most; bias = r .bias }
+  once = λ i. record {
+    kr = one-mul (r .kr) i;
+    kg = one-mul (r .kg) i;
+    kb = one-mul (r .kb) i;
+    all = one-mul (r .all) i;
+    most = r .most;
+    bias = one-mul (r .bias) i;
+  }
+
+  module _ {luma blue red : Scaled}
+      (first : Scales (r .luma) (lines .first .line .mid) (lines .first .line .top) (r .bias) luma × Fits luma (r .bias))
+      (second : Scales (r .blue) (lines .second .line .mid) (lines .second .line .top) (2 * r .bias) blue × Fits blue (2 * r .bias))
+      (third : Scales (r .red) (lines .third .line .mid) (lines .third .line .top) (2 * r .bias) red × Fits red (2 * r .bias)) where
+    abbrev lightWith : Mix → Light
+    lightWith m = record { mix = m; luma = luma; blue = blue; red = red }
+
+    pub stand : (m : Mix) → m ≡ mixOf r 1 → Stands lines (lightWith m) × (m .most ≡ r .most)
+    stand m e =
+        let w = subst (λ k. Stands lines (lightWith k) × (k .most ≡ r .most)) in
+        w (sym (e ∙ once)) (
+          record {
+            fits = record { weighs = subst Weighs once (weighs mixes); luma = first .1; blue = second .1; red = third .1 };
+            luma = record { run = r .luma; follows = f .luma .follows; scales = first .0 };
+            blue = record { run = r .blue; follows = f .blue .follows; scales = second .0 };
+            red = record { run = r .red; follows = f .red .follows; scales = third .0 };
+          },
+          refl,
+        )

@@ -3,38 +3,16 @@
 use mathlib.Core.Path.{_≡_, refl, sym, ap, subst, _∙_}
 use mathlib.Core.Logic.{_⊎_, inl, inr, ⊎-elim}
 use Prim.Native.Nat.{ℕ, zero, suc, _+_, _*_, _-_, _/_, _^_, _≤_, _<_, min}
-use native.Mathlib.Nat.{mul-le-mul-left, mul-le-mul-right, mul-le-mul, lt-of-mul-lt-mul-left, le-of-mul-le-mul-left, div-mul-le-self, lt-div-mul-add, div-eq-of-lt-le, div-div-eq-div-mul, mul-pos}
+use native.Mathlib.Nat.{mul-le-mul-left, mul-le-mul, div-div-eq-div-mul, mul-pos}
 use native.Mathlib.Omega.{arith}
 use lib.IntN.{pos, _+ℤ_, _-ℤ_}
 use Rattle.rounding.specs.Rounding.{round, clip}
+use Rattle.rounding.proofs.Floors.{floor-past, floor-short}
 use Rattle.rounding.proofs.Lifted.{Lifted, upward, downward, no-mid}
 use Rattle.sample.proofs.Choices.{below-or-not}
 use Rattle.light.specs.Scaled.{wholeOf, scaledSample, Fits, Scales}
-use Rattle.light.specs.declared.scaled.Run.{Run}
+use Rattle.runs.specs.declared.Run.{Run}
 use Rattle.light.specs.declared.scaled.Scaled.{Scaled}
-
--- x in parts of 2 half, and m in parts of 2 e: at or past it by less than a half of 1 / e, and short of it by that at most
-floor-past : (half e x m : ℕ) → 0 < e → half * m ≤ e * x → e * x < half * m + half → x / (2 * half) ≡ m / (2 * e)
-floor-past half e x m some low high =
-    let t = m / (2 * e) in
-    let under : t * (2 * e) ≤ m = div-mul-le-self m (2 * e) in
-    let over : m < t * (2 * e) + 2 * e = lt-div-mul-add (omega arith) in
-    let under-half = mul-le-mul-left half under in
-    let over-half = mul-le-mul-left half over in
-    div-eq-of-lt-le {k = t} (2 * half)
-    (le-of-mul-le-mul-left {m = t * (2 * half)} {n = x} {k = e} (omega arith) some)
-    (lt-of-mul-lt-mul-left e {m = x} {n = (t + 1) * (2 * half)} (omega arith))
-
-floor-short : (half e x m : ℕ) → 0 < e → 0 < m → e * x < half * m → half * m ≤ e * x + half → x / (2 * half) ≡ (m - 1) / (2 * e)
-floor-short half e x m some m-some high low =
-    let t = (m - 1) / (2 * e) in
-    let under : t * (2 * e) ≤ m - 1 = div-mul-le-self (m - 1) (2 * e) in
-    let over : m - 1 < t * (2 * e) + 2 * e = lt-div-mul-add (omega arith) in
-    let under-half : half * (t * (2 * e) + 1) ≤ half * m = mul-le-mul-left half (omega arith) in
-    let over-half : half * m ≤ half * (t * (2 * e) + 2 * e) = mul-le-mul-left half (omega arith) in
-    div-eq-of-lt-le {k = t} (2 * half)
-    (le-of-mul-le-mul-left {m = t * (2 * half)} {n = x} {k = e} (omega arith) some)
-    (lt-of-mul-lt-mul-left e {m = x} {n = (t + 1) * (2 * half)} (omega arith))
 
 -- what is rounded, as a numerator over e that is not below zero
 numerator : (g q e start level lift n m a b : ℕ) → m + 2 * (q * start) ≡ 2 * (q * n) + e * (2 * (level + lift) + 1)
@@ -80,7 +58,7 @@ module _ {r : Run} {mid top reach : ℕ} {s : Scaled} (h : Scales r mid top reac
       let u : rest ≤ h .e = let f = h .factor-under in omega arith in
       let v : rest * n ≤ h .e * reach = mul-le-mul u n-in in
       let f = h .fine in
-      whole-is ∙ floor-past (h .half) (h .e) (s .factor * n + s .base) m (h .e-some) (omega arith) (omega arith)
+      whole-is ∙ floor-past (2 * h .half) (2 * h .e) (s .factor * n + s .base) m (let e = h .e-some in omega arith) (omega arith) (omega arith)
 
   short : h .spare ≡ 0 → n < r .start → wholeOf s n ≡ (m - 1) / (2 * h .e)
   short z k =
@@ -91,7 +69,7 @@ module _ {r : Run} {mid top reach : ℕ} {s : Scaled} (h : Scales r mid top reac
       let v : rest * r .start ≤ h .e * reach = mul-le-mul u (h .start-in) in
       let f = h .fine in
       let none = ap (λ i. h .e * i) z in
-      whole-is ∙ floor-short (h .half) (h .e) (s .factor * n + s .base) m (h .e-some) m-some (omega arith) (omega arith)
+      whole-is ∙ floor-short (2 * h .half) (2 * h .e) (s .factor * n + s .base) m (let e = h .e-some in omega arith) m-some (omega arith) (omega arith)
 
   module _ (a b : ℕ) (runs : a + r .times * r .start ≡ b + (r .times * n + r .level * r .over)) where
     lifted : Lifted a b (r .over) (h .g) (2 * h .e) m (h .lift)

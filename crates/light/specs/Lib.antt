@@ -2,4 +2,3 @@
 pub mod Numbers
 pub mod Scaled
 pub mod Light
-pub mod Found

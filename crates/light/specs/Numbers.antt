@@ -4,7 +4,7 @@ use mathlib.Core.Logic.{_⊎_}
 use Prim.Native.Nat.{ℕ, _+_, _*_, _^_, _≤_, _<_}
 use Rattle.light.specs.declared.numbers.Half.{Half}
 use Rattle.light.specs.declared.numbers.Ratio.{Ratio}
-use Rattle.light.specs.declared.scaled.Run.{Run}
+use Rattle.runs.specs.declared.Run.{Run}
 
 -- times / over is q / e
 pub record Reduced (times over q e : ℕ) : Type 0 where

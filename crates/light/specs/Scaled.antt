@@ -3,7 +3,7 @@ use mathlib.Core.Path.{_≡_}
 use Prim.Native.Nat.{ℕ, _+_, _*_, _-_, _/_, _^_, _≤_, _<_, min}
 use Rattle.light.specs.Numbers.{Sides}
 use Rattle.light.specs.declared.scaled.Scaled.{Scaled}
-use Rattle.light.specs.declared.scaled.Run.{Run}
+use Rattle.runs.specs.declared.Run.{Run}
 
 -- what the numbers of a plane make of n: the parts are of 2^32, and those of 2^shift
 abbrev pub wholeOf : Scaled → ℕ → ℕ

@@ -4,9 +4,9 @@ ghost use mathlib.Core.Path.{_≡_};
 ghost use Prim.Native.Nat.{_+_, _*_, _^_, _≤_, _<_};
 ghost use Rattle.light.specs.Scaled.{Fits, Scales};
 ghost use Rattle.light.specs.Numbers.{Reduced, Sides, Past, Factor, Lift, Steps};
-use crate::scaled::Run;
 use crate::scaled::Scaled;
-use fixed::reduce::common;
+use rounding::common::common;
+use runs::Run;
 
 // q / e, in lower terms than it was.
 struct Ratio {

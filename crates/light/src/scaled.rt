@@ -2,15 +2,7 @@
 ghost use mathlib.Core.Path.{_≡_};
 ghost use Rattle.light.specs.Scaled.{Fits, scaledSample};
 
-// times (n - start) / over + level: what is rounded to a sample.
-pub struct Run {
-    pub times: u64,
-    pub over: u64,
-    pub start: u64,
-    pub level: u64,
-}
-
-// The same in parts of 2^(32 + shift), lifted above zero.
+// What is rounded to a sample of a run, in parts of 2^(32 + shift), lifted above zero.
 pub struct Scaled {
     pub factor: u32,
     pub base: u64,

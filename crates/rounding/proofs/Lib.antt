@@ -4,4 +4,5 @@ pub mod FromParts
 pub mod Edges
 pub mod Quotients
 pub mod Rounding
+pub mod Floors
 pub mod Lifted

@@ -1,3 +1,4 @@
 -- What every other crate means by Round, Clip and ">> 1".
 pub mod Rounding
 pub mod Quotient
+pub mod Common

@@ -1,4 +1,5 @@
 // Round and Clip, each with its one home. A number below zero is carried as the difference of two that are not.
+pub mod common;
 pub mod narrow;
 pub mod quotient;
 

@@ -35,7 +35,7 @@ pub fn clip_moved(n: u16, p: u16, q: u16, top: u16) -> u16
 }
 
 // The smaller of two that are small: signed numbers are compared at once where unsigned ones are not.
-fn smaller_of_small(p: u16, q: u16) -> u16
+pub fn smaller_of_small(p: u16, q: u16) -> u16
     requires { ⌜ p < 2 ^ 15 ⌝ }
     requires { ⌜ q < 2 ^ 15 ⌝ }
     ensures { λ r. ⌜ r ≡ min p q ⌝ }

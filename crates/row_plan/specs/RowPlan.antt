@@ -10,9 +10,10 @@ use Rattle.levels.specs.Lines.{linesPixel}
 use Rattle.levels.specs.declared.lines.Lines.{Lines}
 use Rattle.fixed.specs.Words.{wordSample, WordsFit}
 use Rattle.light.specs.Light.{lightPixel, LightFits}
+use Rattle.quotients.specs.Quotients.{quotientsPixel, QuotientsFit}
 use Rattle.plan.specs.Plan.{planned, Roomy, Takes}
 use Rattle.row_plan.specs.declared.RowPlan.{RowPlan}
-use Rattle.row_plan.specs.declared.RowPlan.the-variants.{Plan, Light, Words}
+use Rattle.row_plan.specs.declared.RowPlan.the-variants.{Plan, Quotients, Light, Words}
 use Rattle.row_plan.specs.declared.WordPlanes.{WordPlanes}
 
 abbrev pub wordsPixel : WordPlanes → Pixel → Pixel
@@ -32,19 +33,22 @@ pub record UpToWords (w : WordPlanes) (p : Pixel) : Type 0 where
 -- what it does to a pixel
 abbrev pub rowPlanned : RowPlan → Pixel → Pixel
 rowPlanned (Plan x) p = planned x p
+rowPlanned (Quotients k) p = quotientsPixel k p
 rowPlanned (Light k) p = lightPixel k p
 rowPlanned (Words w) p = wordsPixel w p
 
 -- numbers that the code has room for
 abbrev pub RowRoomy : RowPlan → Type 0
 RowRoomy (Plan x) = Roomy x
+RowRoomy (Quotients k) = QuotientsFit k
 RowRoomy (Light k) = LightFits k
 RowRoomy (Words w) = AllWordsFit w
 
 -- a pixel that the code takes
 abbrev pub RowTakes : RowPlan → Pixel → Type 0
 RowTakes (Plan x) p = Takes x p
-RowTakes (Light k) p = UpTo (k .most) p
+RowTakes (Quotients k) p = UpTo (k .mix .most) p
+RowTakes (Light k) p = UpTo (k .mix .most) p
 RowTakes (Words w) p = UpToWords w p
 
 -- a plan of a conversion f that reads samples of one side within depth: what it does to other pixels is nobody's concern

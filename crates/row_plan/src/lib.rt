@@ -6,14 +6,17 @@ ghost use Rattle.levels.specs.Room.{AllReady};
 ghost use Rattle.setting.specs.Call.{inputOf};
 ghost use Rattle.setting.specs.Ready.{Ready};
 ghost use Rattle.sample.specs.Depth.{ThreeDepths};
+ghost use Rattle.runs.specs.Found.{RunsFound};
 ghost use Rattle.plan.specs.Conversion.{convert};
 ghost use Rattle.row_plan.specs.RowPlan.{MostRead, RowsOf, RowPlans};
 use fixed::words::Prepared;
 use fixed::words::Words;
 use levels::lines::Lines;
 use light::Light;
-use light::prepare::Answer;
 use plan::Plan;
+use quotients::Quotients;
+use runs::Found;
+use runs::Runs;
 use sample::Depths;
 use setting::Call;
 use setting::Way;
@@ -22,7 +25,8 @@ use setting::admission::Served;
 pub enum RowPlan {
     // the plan of one pixel
     Plan(Plan),
-    // level lines, by numbers that stand for them: a luma matrix forward, and any other
+    // level lines, by numbers that stand for them: a luma matrix forward from full range to full range, forward, and any other
+    Quotients(Quotients),
     Light(Light),
     Words(WordPlanes),
 }
@@ -80,6 +84,22 @@ fn word_lines(lines: Lines, most: u16) -> RowPlan
     })
 }
 
+// The lines of a luma matrix, forward.
+fn light_lines(r: Runs, lines: Lines, most: u16) -> RowPlan
+    requires { ⌜ AllReady lines ⌝ }
+    requires { ⌜ most ≤ mostSample ⌝ }
+    requires { ⌜ RunsFound lines r × (r .most ≡ most) ⌝ }
+    ensures { λ p. ⌜ RowsOf lines most p ⌝ }
+{
+    if let quotients::prepare::Answer::Made(quotients) = quotients::prepare::prepare(r, lines) {
+        return RowPlan::Quotients(quotients);
+    }
+    match light::prepare::prepare(r, lines) {
+        light::prepare::Answer::Made(light) => RowPlan::Light(light),
+        light::prepare::Answer::Nothing => word_lines(lines, most),
+    }
+}
+
 // Level lines by the quickest numbers that stand for them.
 fn quick_lines(lines: Lines, most: u16) -> RowPlan
     requires { ⌜ AllReady lines ⌝ }
@@ -88,9 +108,9 @@ fn quick_lines(lines: Lines, most: u16) -> RowPlan
     if levels::MOST_SAMPLE < most {
         return RowPlan::Plan(Plan::Lines(lines));
     }
-    match light::prepare::prepare(lines, most) {
-        Answer::Made(light) => RowPlan::Light(light),
-        Answer::Nothing => word_lines(lines, most),
+    match runs::runs_of(lines, most) {
+        Found::Made(runs) => light_lines(runs, lines, most),
+        Found::Nothing => word_lines(lines, most),
     }
 }
 

@@ -22,6 +22,15 @@ pub fn convert_row(
 {
     match plan {
         RowPlan::Plan(by_pixel) => convert::row::convert_row(by_pixel, a0, a1, a2, b0, b1, b2),
+        RowPlan::Quotients(quotients) => light_rows::by_quotients(
+            quotients,
+            a0,
+            a1,
+            a2,
+            b0,
+            b1,
+            b2,
+        ),
         RowPlan::Light(light) => light_rows::by_light(light, a0, a1, a2, b0, b1, b2),
         RowPlan::Words(words) => word_rows::by_words(words, a0, a1, a2, b0, b1, b2),
     }

@@ -8,23 +8,24 @@ use Rattle.light.proofs.pixel_of.Statement.{statement}
 use Rattle.light.proofs.pixel_of.Tie as tie
 
 sample-requires : tie.Need-sample-requires
-sample-requires c κs = fits-before (c .before .before .before .before .pre .0 .luma) _ (c .light-of .ensures .1)
+sample-requires c κs = fits-before (c .before .before .before .before .before .pre .0 .luma) _ (c .light-of .ensures .1)
 
 sample-requires-2 : tie.Need-sample-requires-2
-sample-requires-2 c κs = fits-before (c .before .before .before .before .before .before .pre .0 .blue) _ (c .away .ensures .1)
+sample-requires-2 c κs = fits-before (c .before .before .before .before .before .before .before .pre .0 .blue) _ (c .away .ensures .1)
 
 sample-requires-3 : tie.Need-sample-requires-3
-sample-requires-3 c κs = fits-before (c .before .before .before .before .before .before .before .before .pre .0 .red) _ (c .away2 .ensures .1)
+sample-requires-3 c κs = fits-before (c .before .before .before .before .before .before .before .before .before .pre .0 .red) _ (c .away2 .ensures .1)
 
 returns : tie.Need-returns
 returns c =
-    let s = c .before .before .before .before .before .before .before .before .before in
+    let s = c .before .before .before .before .before .before .before .before .before .before in
     let k = s .args .by in
+    let m = k .mix in
     let v = s .args .p in
     let light = c .before .before .before .before .before .light-of .ensures .0 in
     let all = sym (s .pre .0 .weighs .sum) in
-    let blue = c .before .before .before .away .ensures .0 ∙ (λ i. all i * v .p2 + k .bias - light i) in
-    let red = c .before .away2 .ensures .0 ∙ (λ i. all i * v .p0 + k .bias - light i) in
+    let blue = c .before .before .before .away .ensures .0 ∙ (λ i. all i * v .p2 + m .bias - light i) in
+    let red = c .before .away2 .ensures .0 ∙ (λ i. all i * v .p0 + m .bias - light i) in
     let first = c .before .before .before .before .sample .ensures ∙ ap (scaledSample (k .luma)) light in
     let second = c .before .before .sample2 .ensures ∙ ap (scaledSample (k .blue)) blue in
     let third = c .sample3 .ensures ∙ ap (scaledSample (k .red)) red in

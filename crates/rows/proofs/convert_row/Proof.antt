@@ -19,13 +19,17 @@ convert-row-requires : tie.Need-convert-row-requires
 convert-row-requires c κs =
     asked-as (c .before .before .before .before .plan .given .1) (c .before .before .before .before .before .before .before .before .before .before .before .before .pre)
 
+by-quotients-requires : tie.Need-by-quotients-requires
+by-quotients-requires c κs =
+    asked-as (c .before .before .before .before .plan2 .given .1) (c .before .before .before .before .before .before .before .before .before .before .before .before .pre)
+
 by-light-requires : tie.Need-by-light-requires
 by-light-requires c κs =
-    asked-as (c .before .before .before .before .plan2 .given .1) (c .before .before .before .before .before .before .before .before .before .before .before .before .pre)
+    asked-as (c .before .before .before .before .plan3 .given .1) (c .before .before .before .before .before .before .before .before .before .before .before .before .pre)
 
 by-words-requires : tie.Need-by-words-requires
 by-words-requires c κs =
-    asked-as (c .before .before .before .before .plan3 .given .1) (c .before .before .before .before .before .before .before .before .before .before .before .before .pre)
+    asked-as (c .before .before .before .before .plan4 .given .1) (c .before .before .before .before .before .before .before .before .before .before .before .before .pre)
 
 returns : tie.Need-returns
 returns c =
@@ -35,16 +39,22 @@ returns c =
 returns-2 : tie.Need-returns-2
 returns-2 c =
     let e = c .before .before .before .before .before .before .before .before .before .before .before .plan2 .given .1 in
-    rw e (c .before .before .before .before .before .before .by-light .ensures)
+    rw e (c .before .before .before .before .before .before .by-quotients .ensures)
 
 returns-3 : tie.Need-returns-3
 returns-3 c =
     let e = c .before .before .before .before .before .before .before .before .before .before .before .plan3 .given .1 in
+    rw e (c .before .before .before .before .before .before .by-light .ensures)
+
+returns-4 : tie.Need-returns-4
+returns-4 c =
+    let e = c .before .before .before .before .before .before .before .before .before .before .before .plan4 .given .1 in
     rw e (c .before .before .before .before .before .before .by-words .ensures)
 
 pub convert-row-spec : {M : Type 1} → statement M
 convert-row-spec =
     tie.close
-    (tie.spec (λ c. search needs) convert-row-requires (λ c. search needs) by-light-requires (λ c. search needs) by-words-requires
+    (tie.spec (λ c. search needs) convert-row-requires (λ c. search needs) by-quotients-requires (λ c. search needs) by-light-requires
+    (λ c. search needs) by-words-requires
     (λ c. search needs) (λ c. search needs) (λ c. search needs) returns (λ c. search needs) (λ c. search needs) (λ c. search needs) returns-2
-    (λ c. search needs) (λ c. search needs) (λ c. search needs) returns-3)
+    (λ c. search needs) (λ c. search needs) (λ c. search needs) returns-3 (λ c. search needs) (λ c. search needs) (λ c. search needs) returns-4)

@@ -3,7 +3,7 @@ use Prim.Native.Nat.{_+_, _*_, _/_, _<_}
 use native.Mathlib.Nat.{div-mul-le-self, lt-div-mul-add}
 use native.Mathlib.Omega.{arith}
 use borrow.Author.Needs.{needs}
-use Rattle.light.proofs.Dividing.{bounded, less}
+use Rattle.runs.proofs.Dividing.{bounded, less}
 use Rattle.light.proofs.numbers.factor_of.Statement.{statement}
 use Rattle.light.proofs.numbers.factor_of.Tie as tie
 

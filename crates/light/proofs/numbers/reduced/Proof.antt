@@ -1,7 +1,7 @@
 -- `light::numbers::reduced` meets its contract: both quotients were tested to leave nothing over.
 use native.Mathlib.Omega.{arith}
 use borrow.Author.Needs.{needs}
-use Rattle.light.proofs.Dividing.{exact, some-part}
+use Rattle.runs.proofs.Dividing.{exact, some-part}
 use Rattle.light.proofs.numbers.reduced.Statement.{statement}
 use Rattle.light.proofs.numbers.reduced.Tie as tie
 

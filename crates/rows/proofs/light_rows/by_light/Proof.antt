@@ -23,7 +23,7 @@ pixel-of-requires : tie.Need-pixel-of-requires Inv-loop μ-loop
 pixel-of-requires c κs =
     let s = c .before .before .before .before .before .before .before .before .before in
     let inside = s .pre .1 .1 (c .before .before .loop .i) (omega arith) in
-    (s .pre .0, subst (UpTo (s .args .by .most)) (sym (c .pixel-in .ensures)) inside)
+    (s .pre .0, subst (UpTo (s .args .by .mix .most)) (sym (c .pixel-in .ensures)) inside)
 
 add-i : tie.Need-add-i Inv-loop μ-loop
 add-i c = omega (arith, c .before .before .before .before .before .before .before .before .before .before .before .before)

@@ -1,0 +1,3 @@
+-- The light of a pixel, and lines that run with it.
+pub mod Light
+pub mod Found
