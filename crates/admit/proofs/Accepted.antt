@@ -1,5 +1,5 @@
 -- What is known of a call that no rule refused: its setting is ready, its sizes fit, and every sample is within its depth.
-use mathlib.Core.Path.{_≡_, sym, subst, _∙_}
+use mathlib.Core.Path.{_≡_, sym, ap, subst, _∙_}
 use mathlib.Core.Bool.{true≢false}
 use mathlib.Core.List.{List, [], _∷_}
 use mathlib.Core.Logic.{_↔_}
@@ -17,7 +17,7 @@ use Rattle.refusal.proofs.RuleLaws.{neither}
 use Rattle.meter.specs.declared.SampleKind.{SampleKind}
 use Rattle.setting.specs.Call.{reads}
 use Rattle.setting.specs.Ready.{Ready}
-use Rattle.setting.specs.Rules.{depths, served, settingRules}
+use Rattle.setting.specs.Rules.{depths, served, settingRules, admitted}
 use Rattle.setting.specs.declared.Call.{Call}
 use Rattle.setting.specs.declared.Call.the-variants as call
 use Rattle.setting.specs.declared.Setting.{Setting}
@@ -32,7 +32,7 @@ use Rattle.planes.specs.declared.search.Found.the-variants.{At, Nothing}
 use Rattle.planes.specs.declared.size.Layout.{Layout}
 use Rattle.planes.proofs.SearchTheorems.{nothing-in-pixels-means}
 use Rattle.planes.proofs.SizeTheorems.{fits}
-use Rattle.admit.specs.Rules.{callAdmission, beyondDepth, pixelPicture, pixelAdmission, sampleAdmission}
+use Rattle.admit.specs.Rules.{callAdmission, sizedAdmission, beyondDepth, pixelPicture, pixelAdmission, sampleAdmission}
 use Rattle.admit.proofs.AdmitLaws.{admitted-passed, in-turn, by-sample}
 
 -- no rule applies
@@ -62,6 +62,20 @@ module _ (call : Call) (s : Setting) (sizes : List Rule) (bad : Found) where
   pub is-ready : Accepted call s sizes bad → Ready (served s)
   is-ready k = ready call s (k .setting)
 
+-- who was let in by setting and sizes has only the samples left
+module _ (call : Call) (s : Setting) (sizes : List Rule) (x : Served) (e : sizedAdmission call s sizes ≡ admission.Admitted x) where
+  pub sized : (first (settingRules call s) ≡ Passed) × (first sizes ≡ Passed)
+  sized = let k = accepted-of call s sizes Nothing x e .0 in (k .setting, k .sizes-pass)
+
+  pub is-served : served s ≡ x
+  is-served = accepted-of call s sizes Nothing x e .1
+
+  pub sized-ready : Ready x
+  sized-ready = subst Ready is-served (ready call s (sized .0))
+
+  pub then-samples : (bad : Found) → admitted (first (badRule bad ∷ [])) x ≡ callAdmission call s sizes bad
+  then-samples bad = sym (ap (admitted (first (badRule bad ∷ []))) is-served) ∙ by-sample call s sizes bad (sized .0) (sized .1)
+
 -- a sample is not above the largest of its depth exactly if it is below 2^depth
 within : (d v : ℕ) → (v ≤ M d) ↔ (v < 2 ^ d)
 within d v = (λ h. omega (arith, pow-pos d), λ h. omega arith)
@@ -72,7 +86,7 @@ not-above x y z p = (
   λ h. record { within0 = within x _ .1 (h .in0); within1 = within y _ .1 (h .in1); within2 = within z _ .1 (h .in2) },
 )
 
-inside-of : (side : Side) (d : Depths) (p : Pixel) → NotAbove (tops side d) p ↔ InsideOf side d p
+pub inside-of : (side : Side) (d : Depths) (p : Pixel) → NotAbove (tops side d) p ↔ InsideOf side d p
 inside-of Rgb d p = not-above (d .rgb .0) (d .rgb .0) (d .rgb .0) p
 inside-of Ycc d p = not-above (d .luma .0) (d .chroma .0) (d .chroma .0) p
 

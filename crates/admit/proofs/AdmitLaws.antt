@@ -82,6 +82,20 @@ module _ (call : Call) (s : Setting) where
     pub not-past : (a : Admission) (r : Refusal) → a ≡ settingAdmission call s → a ≡ admission.Refused r → a ≡ callAdmission call s sizes bad
     not-past a r e f = f ∙ by-setting r (refused-setting a r e f)
 
+  -- who is refused before samples are looked at is refused
+  refused-before : (a b c : Check) (x : Served) (r : Refusal) → admitted (orElse a (orElse b check.Passed)) x ≡ admission.Refused r
+      → admitted (orElse a (orElse b c)) x ≡ admission.Refused r
+  refused-before (check.Refused q) b c x r e = e
+  refused-before check.Passed (check.Refused q) c x r e = e
+  refused-before check.Passed check.Passed c x r e = absurd (true≢false cc)
+
+  pub still-refused : (sizes : List Rule) (bad : Found) (r : Refusal) → callAdmission call s sizes Nothing ≡ admission.Refused r
+      → callAdmission call s sizes bad ≡ admission.Refused r
+  unfolding first
+  still-refused sizes bad r e =
+      sym (by-parts sizes bad)
+      ∙ refused-before (first (settingRules call s)) (first sizes) (first (badRule bad ∷ [])) (served s) r (by-parts sizes Nothing ∙ e)
+
   -- of the rules on sizes only what they come to counts
   pub same-sizes : (a b : List Rule) (bad : Found) → first a ≡ first b → callAdmission call s a bad ≡ callAdmission call s b bad
   same-sizes a b bad e = sym (by-parts a bad) ∙ ap (answer a bad (first (settingRules call s))) e ∙ by-parts b bad

@@ -20,6 +20,7 @@ use Rattle.planes.specs.First.{firstBad, badSample, badRule}
 use Rattle.planes.specs.Picture.{Picture, picture, layoutOf}
 use Rattle.planes.specs.Sizes.{sizeRules}
 use Rattle.planes.specs.declared.search.Found.{Found}
+use Rattle.planes.specs.declared.search.Found.the-variants.{Nothing}
 use Rattle.planes.specs.declared.size.Layout.{Layout}
 
 -- a call with some rules on sizes, whose first bad sample is looked for
@@ -28,6 +29,10 @@ callRules call s sizes bad = settingRules call s ++ (sizes ++ (badRule bad ∷ [
 
 unfoldable pub callAdmission : Call → Setting → List Rule → Found → Admission
 callAdmission call s sizes bad = admitted (first (callRules call s sizes bad)) (served s)
+
+-- a call whose samples are not looked at yet: its setting and its sizes alone
+abbrev pub sizedAdmission : Call → Setting → List Rule → Admission
+sizedAdmission call s sizes = callAdmission call s sizes Nothing
 
 -- the first bad sample of a picture of one side
 abbrev pub beyondDepth : Side → Depths → Picture → Found

@@ -7,8 +7,8 @@ ghost use Rattle.refusal.specs.Rules.{first};
 ghost use Rattle.setting.specs.Rules.{admitted};
 ghost use Rattle.planes.specs.First.{badRule};
 ghost use Rattle.planes.specs.Picture.{picture};
-ghost use Rattle.planes.specs.Sizes.{Sized, Long, needed};
-ghost use Rattle.admit.specs.Rules.{beyondDepth, pixelPicture, topOf, badOne, pictureAdmission, pixelAdmission, sampleAdmission};
+ghost use Rattle.planes.specs.Sizes.{Sized, Long, needed, sizeRules};
+ghost use Rattle.admit.specs.Rules.{beyondDepth, pixelPicture, topOf, badOne, sizedAdmission, pictureAdmission, pixelAdmission, sampleAdmission};
 use meter::SampleKind;
 use planes::search::Found;
 use planes::size::Layout;
@@ -89,7 +89,29 @@ pub fn admit_sample(kind: SampleKind, s: Setting, v: u16) -> Admission
     past(served, bad_one(kind, depths, v))
 }
 
-// A call on a picture. `other` is the layout of the planes that it writes; a call that writes none names its own again.
+// A call on a picture, by its setting and its sizes. `other` is the layout of the planes that it writes; a call that writes none names its own again.
+pub fn admit_sizes(
+    call: Call,
+    s: Setting,
+    width: usize,
+    height: usize,
+    own: Layout,
+    other: Layout,
+) -> Admission
+    ensures { λ r. ⌜ r ≡ sizedAdmission call s (sizeRules width height (own ∷ other ∷ [])) ⌝ }
+{
+    let admission = setting::admission::admit(call, s);
+    let Admission::Admitted(served) = admission else {
+        return admission;
+    };
+    let sizes = planes::size::check_sizes(width, height, own, other);
+    if let Check::Refused(refusal) = sizes {
+        return Admission::Refused(refusal);
+    }
+    past(served, Found::Nothing)
+}
+
+// A call on a picture, whole.
 pub fn admit_picture(
     call: Call,
     s: Setting,
@@ -103,20 +125,16 @@ pub fn admit_picture(
 ) -> Admission
     ensures { λ r. ⌜ r ≡ pictureAdmission call s (picture width height stride (now (a0 .entry)) (now (a1 .entry)) (now (a2 .entry))) (other ∷ []) ⌝ }
 {
-    let admission = setting::admission::admit(call, s);
-    let Admission::Admitted(served) = admission else {
-        return admission;
-    };
     let own = Layout {
         stride,
         n0: a0.len(),
         n1: a1.len(),
         n2: a2.len(),
     };
-    let sizes = planes::size::check_sizes(width, height, own, other);
-    if let Check::Refused(refusal) = sizes {
-        return Admission::Refused(refusal);
-    }
+    let admission = admit_sizes(call, s, width, height, own, other);
+    let Admission::Admitted(served) = admission else {
+        return admission;
+    };
     let depths = served.depths;
     let tops = depths.tops(setting::reads(call));
     past(

@@ -1,27 +1,62 @@
--- The answer and the output planes of a conversion, by whether it is let in, and what is then known for the painting.
+-- The answer and the output planes of a conversion, by whether it is let in: by its setting and its sizes first, and then by its samples, which are
+-- tested while it is painted.
 use mathlib.Core.Path.{_≡_, sym, ap, _∙_, subst}
+use mathlib.Core.Bool.{Bool, true}
 use mathlib.Core.List.{List, [], _∷_}
 use Prim.Native.Nat.{ℕ}
-use Rattle.sample.specs.Depth.{InsideOf}
+use Rattle.sample.specs.Depth.{InsideOf, tops}
+use Rattle.sample.specs.declared.Pixel.{Pixel}
 use Rattle.refusal.specs.declared.Refusal.{Refusal}
 use Rattle.setting.specs.Call.{inputOf}
 use Rattle.setting.specs.Ready.{Ready}
 use Rattle.setting.specs.declared.Call.the-variants.{Convert}
 use Rattle.setting.specs.declared.Setting.{Setting}
 use Rattle.setting.specs.declared.Way.{Way}
+use Rattle.setting.specs.declared.admission.Admission.{Admission}
 use Rattle.setting.specs.declared.admission.Admission.the-variants as admission
 use Rattle.setting.specs.declared.admission.Served.{Served}
+use Rattle.planes.specs.First.{NotAbove}
 use Rattle.planes.specs.Picture.{Picture, layoutOf, sampleOf, pixelOf, EveryPixel}
 use Rattle.planes.specs.Plane.{zeros}
-use Rattle.planes.specs.Sizes.{Fits}
+use Rattle.planes.specs.Sizes.{sizeRules, Fits}
 use Rattle.planes.specs.declared.size.Layout.{Layout}
 use Rattle.planes.proofs.PlaneTheorems.{plane-same}
+use Rattle.planes.proofs.SizeTheorems.{fits}
 use Rattle.plan.specs.Conversion.{convert}
-use Rattle.row_plan.specs.RowPlan.{rowPlanned, RowRoomy, RowTakes, RowPlans}
+use Rattle.row_plan.specs.RowPlan.{rowPlanned, RowPlans}
 use Rattle.row_plan.specs.declared.RowPlan.{RowPlan}
-use Rattle.admit.proofs.Accepted.{accepted-of, is-ready, all-fit, pixels-inside}
-use Rattle.frame.specs.Frame.{frameAdmission, frameAnswer, mappedPlane, convertedPlane, lengthOf, outPlane, FrameAfter, MappedPlanes}
+use Rattle.admit.specs.Rules.{callAdmission, sizedAdmission}
+use Rattle.admit.proofs.AdmitLaws.{still-refused}
+use Rattle.admit.proofs.Accepted.{accepted-of, pixels-inside, sized, is-served, sized-ready, inside-of, inside-exactly}
+use Rattle.frame.specs.Frame.{frameAdmission, frameBy, frameAnswer, mappedPlane, convertedPlane, lengthOf, outPlane, FrameAfter, MappedPlanes, PaintedIf, TakesUpTo, ConvertedIf}
 use Rattle.frame.specs.declared.FrameAnswer.the-variants.{Done, Refused}
+
+-- ---- what is served, painted by a plan of its conversion
+
+module _ (way : Way) (x : Served) {plan : RowPlan} (h : RowPlans (convert way x) (inputOf way) (x .depths) plan) (top : Pixel) (top-is : top ≡ tops (inputOf way) (x .depths)) where
+  -- samples that are not above their tops are within depth, and the other way round
+  within : (p : Pixel) → NotAbove top p → InsideOf (inputOf way) (x .depths) p
+  within p n = inside-of (inputOf way) (x .depths) p .0 (subst (λ t. NotAbove t p) top-is n)
+
+  not-above : (p : Pixel) → InsideOf (inputOf way) (x .depths) p → NotAbove top p
+  not-above p i = subst (λ t. NotAbove t p) (sym top-is) (inside-of (inputOf way) (x .depths) p .1 i)
+
+  pub takes-up-to : TakesUpTo top plan
+  takes-up-to = record { each = λ p n. h .takes p (within p n) }
+
+  module _ (a : Picture) (b : Layout) where
+    mapped : EveryPixel (InsideOf (inputOf way) (x .depths)) a → (k : ℕ) {q : List ℕ} → q ≡ mappedPlane k (rowPlanned plan) a (b .stride) (lengthOf k b)
+        → q ≡ mappedPlane k (convert way x) a (b .stride) (lengthOf k b)
+    mapped inside k m = m ∙ plane-same _ _ _ _ _ _ (λ j i p q. ap (sampleOf k) (h .is (pixelOf a j i) (inside j i p q)))
+
+    pub converted-if : (r : Bool) {q0 q1 q2 : List ℕ} → PaintedIf r top (rowPlanned plan) a b q0 q1 q2 → ConvertedIf r way x a b q0 q1 q2
+    converted-if r t =
+        let inside : r ≡ true → EveryPixel (InsideOf (inputOf way) (x .depths)) a = λ e j i p q. within _ (t .0 .0 e j i p q) in (
+          (inside, λ e i. t .0 .1 e (λ j k p q. not-above _ (i j k p q))),
+          λ e. let m = t .1 e in (mapped (inside e) 0 (m .0), (mapped (inside e) 1 (m .1 .0), mapped (inside e) 2 (m .1 .1))),
+        )
+
+-- ---- the call
 
 module _ (way : Way) (s : Setting) (a : Picture) (b : Layout) where
   -- a call that nothing refuses
@@ -44,35 +79,42 @@ module _ (way : Way) (s : Setting) (a : Picture) (b : Layout) where
     unfolding outPlane
     plane-refused k = rw e
 
-    pub zeroed : {q0 q1 q2 : List ℕ} → (q0 ≡ zeros (b .n0)) × ((q1 ≡ zeros (b .n1)) × (q2 ≡ zeros (b .n2)))
-        → FrameAfter way s a b (Refused r) q0 q1 q2
+    zeroed : {q0 q1 q2 : List ℕ} → (q0 ≡ zeros (b .n0)) × ((q1 ≡ zeros (b .n1)) × (q2 ≡ zeros (b .n2))) → FrameAfter way s a b (Refused r) q0 q1 q2
     zeroed z = (sym refused, (z .0 ∙ sym (plane-refused 0), (z .1 .0 ∙ sym (plane-refused 1), z .1 .1 ∙ sym (plane-refused 2))))
 
--- a call was let in, with x served
-pub record FrameAdmitted (way : Way) (s : Setting) (a : Picture) (b : Layout) (x : Served) : Type 0 where
-  pub is-admitted : frameAdmission way s a b ≡ admission.Admitted x
+  -- it is refused by its setting or its sizes
+  pub refused-first : (r : Refusal) → sizedAdmission (Convert way) s (sizeRules (a .width) (a .height) (layoutOf a ∷ b ∷ [])) ≡ admission.Refused r
+      → {q0 q1 q2 : List ℕ} → (q0 ≡ zeros (b .n0)) × ((q1 ≡ zeros (b .n1)) × (q2 ≡ zeros (b .n2))) → FrameAfter way s a b (Refused r) q0 q1 q2
+  refused-first r e z = zeroed r (still-refused (Convert way) s _ _ r e) z
 
-module _ {way : Way} {s : Setting} {a : Picture} {b : Layout} {x : Served} (l : FrameAdmitted way s a b x) where
-  pub all-ready : Ready x
-  all-ready = let k = accepted-of (Convert way) s _ _ x (l .is-admitted) in subst Ready (k .1) (is-ready _ _ _ _ (k .0))
+-- its setting and its sizes let it in, with x served
+pub record FrameSized (way : Way) (s : Setting) (a : Picture) (b : Layout) (x : Served) : Type 0 where
+  pub is-sized : sizedAdmission (Convert way) s (sizeRules (a .width) (a .height) (layoutOf a ∷ b ∷ [])) ≡ admission.Admitted x
 
-  all-inside : EveryPixel (InsideOf (inputOf way) (x .depths)) a
-  all-inside =
-      let k = accepted-of (Convert way) s _ _ x (l .is-admitted) in
-      subst (λ (y : Served). EveryPixel (InsideOf (inputOf way) (y .depths)) a) (k .1) (pixels-inside (Convert way) s a (b ∷ []) (k .0))
+module _ {way : Way} {s : Setting} {a : Picture} {b : Layout} {x : Served} (l : FrameSized way s a b x) where
+  pub paintable : Ready x × (Fits (a .width) (a .height) (layoutOf a) × Fits (a .width) (a .height) b)
+  paintable =
+      let f = fits _ _ _ (sized (Convert way) s _ x (l .is-sized) .1) in
+      (sized-ready (Convert way) s _ x (l .is-sized), (f .0, f .1 .0))
 
-  -- it is painted by a plan of the conversion
-  module _ {plan : RowPlan} (h : RowPlans (convert way x) (inputOf way) (x .depths) plan) where
-    pub paintable : RowRoomy plan × (Fits (a .width) (a .height) (layoutOf a) × (Fits (a .width) (a .height) b × EveryPixel (RowTakes plan) a))
-    paintable =
-        let k = accepted-of (Convert way) s _ _ x (l .is-admitted) in
-        let f = all-fit (Convert way) s a (b ∷ []) (k .0) in
-        (h .roomy, (f .0, (f .1 .0, λ j i p q. h .takes _ (all-inside j i p q))))
+  abbrev pub Inside : Type 0
+  Inside = EveryPixel (InsideOf (inputOf way) (x .depths)) a
 
-    mapped : (k : ℕ) {q : List ℕ} → q ≡ mappedPlane k (rowPlanned plan) a (b .stride) (lengthOf k b) → q ≡ outPlane k way s a b
-    mapped k m =
-        m ∙ plane-same _ _ _ _ _ _ (λ j i p q. ap (sampleOf k) (h .is (pixelOf a j i) (all-inside j i p q)))
-        ∙ sym (plane-done way s a b x (l .is-admitted) k)
+  -- with all samples within depth it is accepted
+  pub painted-all : Inside → {q0 q1 q2 : List ℕ} → MappedPlanes (convert way x) a b q0 q1 q2 → FrameAfter way s a b Done q0 q1 q2
+  painted-all inside m =
+      let same = is-served (Convert way) s _ x (l .is-sized) in
+      let own = subst (λ (y : Served). EveryPixel (InsideOf (inputOf way) (y .depths)) a) (sym same) inside in
+      let e = ap (callAdmission (Convert way) s _) (inside-exactly (inputOf way) _ a .1 own) ∙ l .is-sized in (
+        sym (done way s a b x e),
+        (m .0 ∙ sym (plane-done way s a b x e 0), (m .1 .0 ∙ sym (plane-done way s a b x e 1), m .1 .1 ∙ sym (plane-done way s a b x e 2))),
+      )
 
-    pub painted : {q0 q1 q2 : List ℕ} → MappedPlanes (rowPlanned plan) a b q0 q1 q2 → FrameAfter way s a b Done q0 q1 q2
-    painted m = (sym (done way s a b x (l .is-admitted)), (mapped 0 (m .0), (mapped 1 (m .1 .0), mapped 2 (m .1 .1))))
+  -- and with one that is not it is refused, whatever its answer says
+  pub turned-away : (Inside → ⊥) → (v : Admission) → v ≡ frameAdmission way s a b → {q0 q1 q2 : List ℕ}
+      → (q0 ≡ zeros (b .n0)) × ((q1 ≡ zeros (b .n1)) × (q2 ≡ zeros (b .n2))) → FrameAfter way s a b (frameBy v) q0 q1 q2
+  turned-away none (admission.Admitted y) e z =
+      let k = accepted-of (Convert way) s _ _ y (sym e) in
+      let same = is-served (Convert way) s _ x (l .is-sized) in
+      absurd (none (subst (λ (y : Served). EveryPixel (InsideOf (inputOf way) (y .depths)) a) same (pixels-inside (Convert way) s a (b ∷ []) (k .0))))
+  turned-away none (admission.Refused r) e z = zeroed way s a b r (sym e) z

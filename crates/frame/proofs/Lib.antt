@@ -1,3 +1,4 @@
 -- Laws of frames.
 pub mod PaintLaws
 pub mod FrameLaws
+pub mod FineLaws

@@ -3,18 +3,20 @@
 use mathlib.Core.Path.{_≡_, refl, ap, _∙_}
 use mathlib.Core.List.{List}
 use Prim.Native.Nat.{ℕ, _+_, _*_, _/_, _%_, _<_, _≤_}
+use native.Mathlib.Nat.{zero-add}
 use native.Mathlib.Omega.{arith}
+use borrow.Author.Count.{below-none, below-more}
 use lib.ListN.{length}
 use Rattle.sample.specs.declared.Pixel.{Pixel}
-use Rattle.planes.specs.Picture.{Picture, picture, layoutOf, sampleOf, EveryPixel}
+use Rattle.planes.specs.Picture.{Picture, picture, layoutOf, pixelOf, sampleOf, EveryPixel}
 use Rattle.planes.specs.Plane.{patched, cleared}
 use Rattle.planes.specs.Sizes.{layout, needed, Long, RowStart, Fits}
 use Rattle.planes.specs.declared.size.Layout.{Layout}
 use Rattle.planes.proofs.Painted.{Progress, progress-none, progress-more, Painted, painted-none, painted-more, painted-whole, painted-end}
-use Rattle.planes.proofs.SizeLaws.{needed-whole}
+use Rattle.planes.proofs.SizeLaws.{index-inside, needed-whole}
 use Rattle.planes.proofs.Tables.{part-width}
 use Rattle.convert.specs.Row.{rowPart, EveryOf, OneWidth}
-use Rattle.convert.proofs.RunLaws.{Run, row-run, whole-run, run-pixel, run-of-every}
+use Rattle.convert.proofs.RunLaws.{Run, row-run, whole-run, run-pixel, pixel-of-part, run-of-every}
 use Rattle.frame.specs.Frame.{mappedSample, mappedPlane, lengthOf, MappedPlanes, mappedPart, RowsPut}
 
 -- six parts of one width
@@ -59,6 +61,16 @@ painting-none h =
 abbrev pub Zeroed : ℕ → ℕ → ℕ → ℕ → (y0 y1 y2 z0 z1 z2 : List ℕ) → Type 0
 Zeroed done e0 e1 e2 y0 y1 y2 z0 z1 z2 = (z0 ≡ cleared y0 done e0) × ((z1 ≡ cleared y1 done e1) × (z2 ≡ cleared y2 done e2))
 
+-- the first j rows of a picture have a fact at every pixel
+pub record Seen (fact : Pixel → Type 0) (a : Picture) (j : ℕ) : Type 0 where
+  pub each : (k : ℕ) → k < j → (i : ℕ) → i < a .width → fact (pixelOf a k i)
+
+pub seen-none : (fact : Pixel → Type 0) (a : Picture) → Seen fact a 0
+seen-none fact a = record { each = below-none _ }
+
+pub seen-all : {fact : Pixel → Type 0} {a : Picture} {j : ℕ} → Seen fact a j → a .height ≤ j → EveryPixel fact a
+seen-all s h k i l m = s .each k (omega arith) i m
+
 -- A turn at row j, which starts at `from` in the planes that are read and at `to` in those that are written.
 pub record Turn (f : Pixel → Pixel) (a : Picture) (b : Layout) (y0 y1 y2 : List ℕ) (j done from to : ℕ) : Type 0 where
   pub input-fits : Fits (a .width) (a .height) (layoutOf a)
@@ -82,10 +94,23 @@ module _ {f : Pixel → Pixel} {a : Picture} {b : Layout} {y0 y1 y2 : List ℕ} 
   row-turned : Run a from (a .width) (λ _. j) (λ k. k)
   row-turned = row-run j (t .row-inside) (t .starts-from .is)
 
-  pub row-lent : (fact : Pixel → Type 0) {n0 n1 n2 : ℕ} → EveryPixel fact a → n0 ≡ length y0 → n1 ≡ length y1 → n2 ≡ length y2
-      → Long (from + a .width) (length (a .p0)) (length (a .p1)) (length (a .p2)) × (Long (to + a .width) n0 n1 n2
-      × EveryOf fact (rowPart (a .p0) from (a .width)) (rowPart (a .p1) from (a .width)) (rowPart (a .p2) from (a .width)))
-  row-lent fact e l0 l1 l2 = let k = output-long in (input-long, (omega arith, run-of-every row-turned fact e (input-long .long0)))
+  pub row-room : {n0 n1 n2 : ℕ} → n0 ≡ length y0 → n1 ≡ length y1 → n2 ≡ length y2
+      → Long (from + a .width) (length (a .p0)) (length (a .p1)) (length (a .p2)) × Long (to + a .width) n0 n1 n2
+  row-room l0 l1 l2 = let k = output-long in (input-long, omega arith)
+
+  -- a fact of every pixel of the picture is one of the row's
+  pub row-of-every : (fact : Pixel → Type 0) → EveryPixel fact a
+      → EveryOf fact (rowPart (a .p0) from (a .width)) (rowPart (a .p1) from (a .width)) (rowPart (a .p2) from (a .width))
+  row-of-every fact e = run-of-every row-turned fact e (input-long .long0)
+
+  -- and rows that were all seen to have it are one more with this one
+  pub seen-more : (fact : Pixel → Type 0) → Seen fact a j
+      → EveryOf fact (rowPart (a .p0) from (a .width)) (rowPart (a .p1) from (a .width)) (rowPart (a .p2) from (a .width)) → Seen fact a (j + 1)
+  seen-more fact before here =
+      record {
+        each = below-more (λ k. (i : ℕ) → i < a .width → fact (pixelOf a k i)) j (before .each)
+            (λ i l. pixel-of-part a from (a .width) fact (input-long .long0) here i j i (ap (λ n. n + i) (t .starts-from .is)) l);
+      }
 
   -- y was zeroed up to the row, and then had the row put into its own part
   turned : (n : ℕ) {y z w : List ℕ} → to + a .width ≤ lengthOf n b → RowsPainted f a b n y j done
@@ -130,10 +155,17 @@ module _ {a : Picture} {b : Layout} {n : ℕ} (t : Whole a b n) where
       let l = rw (t .output-close) at (t .output-fits .long) in
       omega (arith, t .long-as)
 
-  pub whole-taken : (fact : Pixel → Type 0) → EveryPixel fact a
-      → Long (0 + n) (length (a .p0)) (length (a .p1)) (length (a .p2)) × (Long (0 + n) (b .n0) (b .n1) (b .n2)
-      × EveryOf fact (rowPart (a .p0) 0 n) (rowPart (a .p1) 0 n) (rowPart (a .p2) 0 n))
-  whole-taken fact h = let k = inside-both in (omega arith, (omega arith, run-of-every whole-lent fact h (omega arith)))
+  pub whole-room : Long (0 + n) (length (a .p0)) (length (a .p1)) (length (a .p2)) × Long (0 + n) (b .n0) (b .n1) (b .n2)
+  whole-room = let k = inside-both in (omega arith, omega arith)
+
+  -- a fact of every pixel of the picture is one of the run's, and the other way round
+  pub whole-of-every : (fact : Pixel → Type 0) → EveryPixel fact a → EveryOf fact (rowPart (a .p0) 0 n) (rowPart (a .p1) 0 n) (rowPart (a .p2) 0 n)
+  whole-of-every fact h = run-of-every whole-lent fact h (whole-room .0 .long0)
+
+  pub every-of-whole : (fact : Pixel → Type 0) → EveryOf fact (rowPart (a .p0) 0 n) (rowPart (a .p1) 0 n) (rowPart (a .p2) 0 n) → EveryPixel fact a
+  every-of-whole fact h j i p q =
+      pixel-of-part a 0 n fact (whole-room .0 .long0) h (j * a .stride + i) j i (zero-add _)
+      (omega (arith, t .long-as, ap (λ k. needed (a .width) (a .height) k) (t .input-close), index-inside (a .width) (a .height) (a .stride) j i p q))
 
   covered : (f : Pixel → Pixel) (k : ℕ) (y : List ℕ) {w : List ℕ} → length y ≡ lengthOf k b → n ≤ lengthOf k b
       → w ≡ patched y 0 (0 + n) (mappedPart k f 0 n (a .p0) (a .p1) (a .p2)) → RowsPainted f a b k w (a .height) n

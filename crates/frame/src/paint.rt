@@ -1,18 +1,29 @@
-// What an accepted conversion writes: every row into its own part of each plane, and zeros into the parts that the rows leave.
+// What an accepted conversion writes: every row into its own part of each plane, and zeros into the parts that the rows leave. Each row is
+// tested while it is at hand: a sample above its top ends the painting, and the answer is no.
 ghost use Prim.Native.Nat.{_+_};
 ghost use lib.ListN.{length};
-ghost use Rattle.planes.specs.Picture.{picture, layoutOf, EveryPixel};
+ghost use Rattle.planes.specs.First.{Tells};
+ghost use Rattle.planes.specs.Picture.{picture, layoutOf};
 ghost use Rattle.planes.specs.Sizes.{layout, Long, Fits};
-ghost use Rattle.row_plan.specs.RowPlan.{rowPlanned, RowRoomy, RowTakes};
-ghost use Rattle.convert.specs.Row.{rowPart, EveryOf};
-ghost use Rattle.frame.specs.Frame.{inputPicture, outputLayout, MappedPlanes, RowsPut};
+ghost use Rattle.row_plan.specs.RowPlan.{rowPlanned, RowRoomy};
+ghost use Rattle.frame.specs.Frame.{inputPicture, outputLayout, FineParts, RowsPutIf, PaintedIf, TakesUpTo};
 use crate::Size;
 use planes::size::row_start;
 use row_plan::RowPlan;
+use sample::Pixel;
+
+// Yes exactly if none of the n samples from index `from` on is above its top, in any of the three planes.
+fn row_fine(tops: Pixel, from: usize, n: usize, a0: &[u16], a1: &[u16], a2: &[u16]) -> bool
+    requires { ⌜ Long (from + n) (length (now a0)) (length (now a1)) (length (now a2)) ⌝ }
+    ensures { λ r. ⌜ Tells r (FineParts tops from n (now (a0 .entry)) (now (a1 .entry)) (now (a2 .entry))) ⌝ }
+{
+    planes::search::runs_fine(tops, from, n, a0, a1, a2)
+}
 
 // One row, from index `from` of the planes that are read to index `to` of those that are written.
 fn paint_row(
     plan: RowPlan,
+    tops: Pixel,
     width: usize,
     from: usize,
     to: usize,
@@ -22,14 +33,17 @@ fn paint_row(
     b0: &mut [u16],
     b1: &mut [u16],
     b2: &mut [u16],
-)
+) -> bool
     requires { ⌜ RowRoomy plan ⌝ }
+    requires { ⌜ TakesUpTo tops plan ⌝ }
     requires { ⌜ Long (from + width) (length (now a0)) (length (now a1)) (length (now a2)) ⌝ }
     requires { ⌜ Long (to + width) (length (now b0)) (length (now b1)) (length (now b2)) ⌝ }
-    requires { ⌜ EveryOf (RowTakes plan) (rowPart (now a0) from width) (rowPart (now a1) from width) (rowPart (now a2) from width) ⌝ }
-    ensures { λ _. ⌜ RowsPut (rowPlanned plan) from to width (now (a0 .entry)) (now (a1 .entry)) (now (a2 .entry))
+    ensures { λ r. ⌜ RowsPutIf r tops (rowPlanned plan) from to width (now (a0 .entry)) (now (a1 .entry)) (now (a2 .entry))
         (now (b0 .entry)) (now (b1 .entry)) (now (b2 .entry)) (now (b0 .exit)) (now (b1 .exit)) (now (b2 .exit)) ⌝ }
 {
+    if !row_fine(tops, from, width, a0, a1, a2) {
+        return false;
+    }
     let from_end = from + width;
     let to_end = to + width;
     rows::convert_row(
@@ -41,11 +55,13 @@ fn paint_row(
         &mut b1[to..to_end],
         &mut b2[to..to_end],
     );
+    true
 }
 
 // Row by row, with zeros between them and after them.
 fn paint_rows(
     plan: RowPlan,
+    tops: Pixel,
     size: Size,
     a0: &[u16],
     a1: &[u16],
@@ -53,12 +69,12 @@ fn paint_rows(
     b0: &mut [u16],
     b1: &mut [u16],
     b2: &mut [u16],
-)
+) -> bool
     requires { ⌜ RowRoomy plan ⌝ }
+    requires { ⌜ TakesUpTo tops plan ⌝ }
     requires { ⌜ Fits (size .width) (size .height) (layoutOf (inputPicture size (now a0) (now a1) (now a2))) ⌝ }
     requires { ⌜ Fits (size .width) (size .height) (outputLayout size (length (now b0)) (length (now b1)) (length (now b2))) ⌝ }
-    requires { ⌜ EveryPixel (RowTakes plan) (inputPicture size (now a0) (now a1) (now a2)) ⌝ }
-    ensures { λ _. ⌜ MappedPlanes (rowPlanned plan) (inputPicture size (now (a0 .entry)) (now (a1 .entry)) (now (a2 .entry)))
+    ensures { λ r. ⌜ PaintedIf r tops (rowPlanned plan) (inputPicture size (now (a0 .entry)) (now (a1 .entry)) (now (a2 .entry)))
         (outputLayout size (length (now (b0 .entry))) (length (now (b1 .entry))) (length (now (b2 .entry))))
         (now (b0 .exit)) (now (b1 .exit)) (now (b2 .exit)) ⌝ }
 {
@@ -71,15 +87,19 @@ fn paint_rows(
         let from = row_start(j, height, input_stride);
         let to = row_start(j, height, output_stride);
         planes::fill::zero_gap(b0, b1, b2, done, to);
-        paint_row(plan, width, from, to, a0, a1, a2, b0, b1, b2);
+        if !paint_row(plan, tops, width, from, to, a0, a1, a2, b0, b1, b2) {
+            return false;
+        }
         done = to + width;
     }
     planes::fill::zero_rest(b0, b1, b2, done);
+    true
 }
 
 // All rows as one, where nothing lies between them on either side, with zeros after them.
 fn paint_whole(
     plan: RowPlan,
+    tops: Pixel,
     width: usize,
     height: usize,
     a0: &[u16],
@@ -88,23 +108,27 @@ fn paint_whole(
     b0: &mut [u16],
     b1: &mut [u16],
     b2: &mut [u16],
-)
+) -> bool
     requires { ⌜ RowRoomy plan ⌝ }
+    requires { ⌜ TakesUpTo tops plan ⌝ }
     requires { ⌜ Fits width height (layoutOf (picture width height width (now a0) (now a1) (now a2))) ⌝ }
     requires { ⌜ Fits width height (layout width (length (now b0)) (length (now b1)) (length (now b2))) ⌝ }
-    requires { ⌜ EveryPixel (RowTakes plan) (picture width height width (now a0) (now a1) (now a2)) ⌝ }
-    ensures { λ _. ⌜ MappedPlanes (rowPlanned plan) (picture width height width (now (a0 .entry)) (now (a1 .entry)) (now (a2 .entry)))
+    ensures { λ r. ⌜ PaintedIf r tops (rowPlanned plan) (picture width height width (now (a0 .entry)) (now (a1 .entry)) (now (a2 .entry)))
         (layout width (length (now (b0 .entry))) (length (now (b1 .entry))) (length (now (b2 .entry))))
         (now (b0 .exit)) (now (b1 .exit)) (now (b2 .exit)) ⌝ }
 {
     let n = row_start(height - 1, height, width) + width;
-    paint_row(plan, n, 0, 0, a0, a1, a2, b0, b1, b2);
+    if !paint_row(plan, tops, n, 0, 0, a0, a1, a2, b0, b1, b2) {
+        return false;
+    }
     planes::fill::zero_rest(b0, b1, b2, n);
+    true
 }
 
 // Every element of the output planes: the rows of the picture, and zeros between them and after them.
 pub fn paint(
     plan: RowPlan,
+    tops: Pixel,
     size: Size,
     a0: &[u16],
     a1: &[u16],
@@ -112,12 +136,12 @@ pub fn paint(
     b0: &mut [u16],
     b1: &mut [u16],
     b2: &mut [u16],
-)
+) -> bool
     requires { ⌜ RowRoomy plan ⌝ }
+    requires { ⌜ TakesUpTo tops plan ⌝ }
     requires { ⌜ Fits (size .width) (size .height) (layoutOf (inputPicture size (now a0) (now a1) (now a2))) ⌝ }
     requires { ⌜ Fits (size .width) (size .height) (outputLayout size (length (now b0)) (length (now b1)) (length (now b2))) ⌝ }
-    requires { ⌜ EveryPixel (RowTakes plan) (inputPicture size (now a0) (now a1) (now a2)) ⌝ }
-    ensures { λ _. ⌜ MappedPlanes (rowPlanned plan) (inputPicture size (now (a0 .entry)) (now (a1 .entry)) (now (a2 .entry)))
+    ensures { λ r. ⌜ PaintedIf r tops (rowPlanned plan) (inputPicture size (now (a0 .entry)) (now (a1 .entry)) (now (a2 .entry)))
         (outputLayout size (length (now (b0 .entry))) (length (now (b1 .entry))) (length (now (b2 .entry))))
         (now (b0 .exit)) (now (b1 .exit)) (now (b2 .exit)) ⌝ }
 {
@@ -127,9 +151,8 @@ pub fn paint(
     let output_stride = size.output_stride;
     if input_stride == width {
         if output_stride == width {
-            paint_whole(plan, width, height, a0, a1, a2, b0, b1, b2);
-            return;
+            return paint_whole(plan, tops, width, height, a0, a1, a2, b0, b1, b2);
         }
     }
-    paint_rows(plan, size, a0, a1, a2, b0, b1, b2);
+    paint_rows(plan, tops, size, a0, a1, a2, b0, b1, b2)
 }

@@ -10,11 +10,19 @@ use lib.ListN.{length, getD, take, drop}
 use Rattle.sample.proofs.Choices.{chose-first, chose-second}
 use Rattle.refusal.specs.Rules.{at}
 use Rattle.refusal.specs.declared.Place.{Place}
-use Rattle.planes.specs.First.{orFound, firstOf, placeIf, placeInRow, firstPlace, IsFirstPlace, largestOf}
+use Rattle.planes.specs.First.{orFound, firstOf, placeIf, placeInRow, firstPlace, IsFirstPlace, largestOf, RunFine, Tells}
 use Rattle.planes.specs.declared.search.Found.{Found}
 use Rattle.planes.specs.declared.search.Found.the-variants.{At, Nothing}
 use Rattle.planes.specs.Plane.{sampleAt}
-use Rattle.planes.proofs.Tables.{part-length, part-sample}
+use Rattle.planes.proofs.Tables.{part-length, part-at, part-sample}
+
+-- ---- answers
+
+pub yes : {fact : Type 0} → fact → Tells true fact
+yes h = (λ e. h, λ e. absurd (true≢false e))
+
+pub no : {fact : Type 0} → (fact → ⊥) → Tells false fact
+no h = (λ e. absurd (true≢false (sym e)), λ e. h)
 
 -- ---- any search
 
@@ -180,3 +188,24 @@ pub part-fine : (p : List ℕ) (stride j i s e k top m : ℕ) → s + k ≡ j * 
 part-fine p stride j i s e k top m q h a b l w =
     let part = take (e - s) (drop s p) in
     omega (arith, none-above part (length part) k (omega (arith, part-length p s e a b)), part-sample p stride j i s e k q h)
+
+-- where no element is above a number, the largest is not
+pub largest-within : (s : List ℕ) (n top : ℕ) → ((k : ℕ) → k < n → getD s k 0 ≤ top) → largestOf n s ≤ top
+unfolding largestOf
+largest-within s zero top h = omega arith
+largest-within s (suc n) top h = omega (arith, largest-within s n top (λ k l. h k (omega arith)), h n (omega arith))
+
+-- the samples of a run by the largest of the part that holds them
+module _ (p : List ℕ) (from n top m : ℕ) (h : from + n ≤ length p) (e : m ≡ largestOf n (take (from + n - from) (drop from p))) where
+  abbrev part : List ℕ
+  part = take (from + n - from) (drop from p)
+
+  pub run-within : m ≤ top → RunFine p from n top
+  run-within w k l =
+      let here = part-at p from (from + n) k (omega arith) in
+      omega (arith, none-above part n k l, here)
+
+  pub run-past : top < m → RunFine p from n top → ⊥
+  run-past w fine =
+      let all : (k : ℕ) → k < n → getD part k 0 ≤ top = λ k l. omega (arith, part-at p from (from + n) k (omega arith), fine k l) in
+      omega (arith, largest-within part n top all)

@@ -57,7 +57,7 @@ filled-all f n y i q e = rw (← q) (sym (take-all i y (omega (arith, e .len))) 
 pub part-length : (y : List ℕ) (a e : ℕ) → a ≤ e → e ≤ length y → length (take (e - a) (drop a y)) ≡ e - a
 part-length y a e h k = simp (length-take, length-drop) (omega arith)
 
-part-at : (y : List ℕ) (a e i : ℕ) → i < e - a → getD (take (e - a) (drop a y)) i 0 ≡ getD y (a + i) 0
+pub part-at : (y : List ℕ) (a e i : ℕ) → i < e - a → getD (take (e - a) (drop a y)) i 0 ≡ getD y (a + i) 0
 part-at y a e i h = rw (getD-take, getD-drop)
 
 -- of an input plane: where element k of the part is the sample of row j and column i, and how wide the part is that n elements from s make

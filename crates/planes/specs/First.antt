@@ -4,7 +4,7 @@ use mathlib.Core.Path.{_≡_}
 use mathlib.Core.Bool.{Bool, true, false, cond}
 use mathlib.Core.List.{List}
 use mathlib.Core.Logic.{_⊎_}
-use Prim.Native.Nat.{ℕ, zero, suc, _≤_, _<_, max}
+use Prim.Native.Nat.{ℕ, zero, suc, _+_, _≤_, _<_, max}
 use lib.Dec.{ltb}
 use lib.ListN.{getD}
 use Rattle.refusal.specs.Rules.{Rule, rule, at, badAt}
@@ -63,9 +63,24 @@ unfoldable pub largestOf : ℕ → List ℕ → ℕ
 largestOf zero s = 0
 largestOf (suc n) s = max (largestOf n s) (getD s n 0)
 
+-- that of each of three lists
+abbrev pub largestPixel : ℕ → List ℕ → List ℕ → List ℕ → Pixel
+largestPixel n s0 s1 s2 = record { p0 = largestOf n s0; p1 = largestOf n s1; p2 = largestOf n s2 }
+
 -- every sample inside the picture is within its depth
 abbrev pub AllFine : List ℕ → ℕ → ℕ → ℕ → ℕ → Type 0
 AllFine p width height stride top = (j i : ℕ) → j < height → i < width → sampleAt p stride j i ≤ top
+
+-- the n samples from index `from` on are within their depth
+abbrev pub RunFine : List ℕ → ℕ → ℕ → ℕ → Type 0
+RunFine p from n top = (k : ℕ) → k < n → getD p (from + k) 0 ≤ top
+
+abbrev pub RunsFine : Pixel → ℕ → ℕ → List ℕ → List ℕ → List ℕ → Type 0
+RunsFine tops from n p0 p1 p2 = RunFine p0 from n (tops .p0) × (RunFine p1 from n (tops .p1) × RunFine p2 from n (tops .p2))
+
+-- an answer that is yes exactly if a fact holds
+abbrev pub Tells : Bool → Type 0 → Type 0
+Tells r fact = (r ≡ true → fact) × (r ≡ false → fact → ⊥)
 
 -- row j and column i come before another row and column
 abbrev pub Before : ℕ → ℕ → ℕ → ℕ → Type 0

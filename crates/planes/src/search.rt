@@ -1,11 +1,11 @@
 // Rule 10: the first sample of a picture that is beyond its depth.
 ghost use mathlib.Core.Path.{_≡_};
 ghost use mathlib.Core.Bool.{true};
-ghost use Prim.Native.Nat.{_≤_};
+ghost use Prim.Native.Nat.{_+_, _≤_, max};
 ghost use lib.ListN.{length};
 ghost use Rattle.planes.specs.Sizes.{Sized, Long, needed};
 ghost use Rattle.planes.specs.Picture.{picture};
-ghost use Rattle.planes.specs.First.{largestOf, firstBad, badSample, AllFine};
+ghost use Rattle.planes.specs.First.{largestOf, largestPixel, firstBad, badSample, AllFine, RunsFine, Tells};
 use crate::size::row_start;
 use refusal::Place;
 use sample::Pixel;
@@ -28,6 +28,56 @@ fn largest(s: &[u16]) -> u16
         }
     }
     m
+}
+
+// The larger of two.
+pub fn larger(a: u16, b: u16) -> u16
+    ensures { λ r. ⌜ r ≡ max a b ⌝ }
+{
+    if a < b {
+        return b;
+    }
+    a
+}
+
+// The largest element of each of three, in one walk: what has to be fetched of one is fetched while another is looked at.
+fn largest_of_three(s0: &[u16], s1: &[u16], s2: &[u16]) -> Pixel
+    requires { ⌜ length (now s1) ≡ length (now s0) ⌝ }
+    requires { ⌜ length (now s2) ≡ length (now s0) ⌝ }
+    ensures { λ r. ⌜ r ≡ largestPixel (length (now (s0 .entry))) (now (s0 .entry)) (now (s1 .entry)) (now (s2 .entry)) ⌝ }
+{
+    let mut m0 = 0;
+    let mut m1 = 0;
+    let mut m2 = 0;
+    for i in 0..s0.len() {
+        m0 = larger(m0, s0[i]);
+        m1 = larger(m1, s1[i]);
+        m2 = larger(m2, s2[i]);
+    }
+    Pixel {
+        p0: m0,
+        p1: m1,
+        p2: m2,
+    }
+}
+
+// Yes exactly if none of the n samples from index `from` on is above its top, in any of three planes.
+pub fn runs_fine(tops: Pixel, from: usize, n: usize, a0: &[u16], a1: &[u16], a2: &[u16]) -> bool
+    requires { ⌜ Long (from + n) (length (now a0)) (length (now a1)) (length (now a2)) ⌝ }
+    ensures { λ r. ⌜ Tells r (RunsFine tops from n (now (a0 .entry)) (now (a1 .entry)) (now (a2 .entry))) ⌝ }
+{
+    let end = from + n;
+    let most = largest_of_three(&a0[from..end], &a1[from..end], &a2[from..end]);
+    if tops.p0 < most.p0 {
+        return false;
+    }
+    if tops.p1 < most.p1 {
+        return false;
+    }
+    if tops.p2 < most.p2 {
+        return false;
+    }
+    true
 }
 
 // Yes only if no sample is above `top`. Rows that have nothing between them are looked at as one; of others it says no.

@@ -1,6 +1,6 @@
 // A plan for many pixels: what takes some time to prepare and makes each pixel cheap. It does what the plan of the conversion does.
 ghost use mathlib.Core.Path.{_≡_};
-ghost use Prim.Native.Nat.{_≤_, max};
+ghost use Prim.Native.Nat.{_≤_};
 ghost use Rattle.levels.specs.Conversion.{mostSample};
 ghost use Rattle.levels.specs.Room.{AllReady};
 ghost use Rattle.setting.specs.Call.{inputOf};
@@ -14,6 +14,7 @@ use fixed::words::Words;
 use levels::lines::Lines;
 use light::Light;
 use plan::Plan;
+use planes::search::larger;
 use quotients::Quotients;
 use runs::Found;
 use runs::Runs;
@@ -36,15 +37,6 @@ pub struct WordPlanes {
     pub first: Words,
     pub second: Words,
     pub third: Words,
-}
-
-fn larger(a: u16, b: u16) -> u16
-    ensures { λ r. ⌜ r ≡ max a b ⌝ }
-{
-    if a < b {
-        return b;
-    }
-    a
 }
 
 // The largest sample that a conversion reads in any plane.

@@ -1,37 +1,45 @@
--- `frame::convert_frame` meets its contract: what is known of a call that is let in is what the painting asks, and a refusal zeroes.
-use mathlib.Core.Path.{sym, _∙_}
+-- `frame::convert_frame` meets its contract: what setting and sizes let in is painted if its samples are within depth, and else refused with the place;
+-- a refusal zeroes.
+use mathlib.Core.Path.{_≡_, sym, ap, _∙_}
 use borrow.Author.Needs.{needs}
 use lib.ListN.{length}
-use Rattle.frame.specs.Frame.{inputPicture, outputLayout}
-use Rattle.frame.proofs.FrameLaws.{FrameAdmitted, all-ready, paintable, painted, zeroed}
+use Rattle.planes.specs.Plane.{zeros}
+use Rattle.frame.specs.Frame.{inputPicture, outputLayout, frameBy, FrameAfter}
+use Rattle.frame.proofs.FrameLaws.{FrameSized, paintable, painted-all, turned-away, refused-first}
 use Rattle.frame.proofs.convert_frame.Statement.{statement}
 use Rattle.frame.proofs.convert_frame.Tie as tie
 
 let-in : (c : tie.After-served)
     → let x = c .before .before .before .before .before .before .before .before .before .args in
-    FrameAdmitted (x .way) (x .s) (inputPicture (x .size) (x .a0 .now) (x .a1 .now) (x .a2 .now))
+    FrameSized (x .way) (x .s) (inputPicture (x .size) (x .a0 .now) (x .a1 .now) (x .a2 .now))
     (outputLayout (x .size) (length (x .b0 .now)) (length (x .b1 .now)) (length (x .b2 .now))) (c .served .given .0 .0)
-let-in c = record { is-admitted = sym (c .before .before .admit-picture .ensures) ∙ c .served .given .1 }
+let-in c = record { is-sized = sym (c .before .before .admit-sizes .ensures) ∙ c .served .given .1 }
 
-plan-rows-requires : tie.Need-plan-rows-requires
-plan-rows-requires c κs = all-ready (let-in (c .before))
-
-paint-requires : tie.Need-paint-requires
-paint-requires c κs = let p = c .before .before .before in paintable (let-in (p .before .before)) (p .plan-rows .ensures)
+painted-requires : tie.Need-painted-requires
+painted-requires c κs = paintable (let-in (c .before .before .before .before))
 
 returns : tie.Need-returns
-returns c =
-    let p = c .before .before .before .before .before .before .before .before .before .before in
-    painted (let-in (p .before .before)) (p .plan-rows .ensures) (c .before .before .before .before .before .before .paint .ensures)
+returns c = let p = c .before .before .before .before .before .before .before .painted .ensures in painted-all (let-in (c .before .before .before .before .before .before .before .before .before .before .before .before)) (p .0 .0 (c .if1 .taken)) (p .1 (c .if1 .taken))
 
 returns-2 : tie.Need-returns-2
 returns-2 c =
+    let p = c .before .before .before .before .before .before .before .before .before .before .before .before .before .before .before .before .before .before .before .painted in
+    let kept = p .kept in
+    let z = c .before .before .before .before .before .before .before .before .zero-three .ensures in
+    let v = c .before .admit-picture in
+    let away = turned-away (let-in (c .before .before .before .before .before .before .before .before .before .before .before .before .before .before .before .before .before .before .before .before .before .before .before .before)) (p .ensures .0 .1 (c .before .before .before .before .before .before .before .before .before .before .before .before .if1 .left)) (v .result) (v .ensures)
+    (z .0 ∙ ap zeros (kept .1 .1 .1 .1 .1 .1 .0), (z .1 .0 ∙ ap zeros (kept .1 .1 .1 .1 .1 .1 .1 .0), z .1 .1 ∙ ap zeros (kept .1 .1 .1 .1 .1 .1 .1 .1 .0))) in
+    (c .answer-of .ensures ∙ away .0, away .1)
+
+returns-3 : tie.Need-returns-3
+returns-3 c =
+    let s = c .before .before .before .before .before .before .before .before .before .before .before .before .before .before .before .before .before .before .before .before in
     let r = c .before .before .before .before .before .before .before .before .before .before .before in
-    zeroed _ _ _ _ _ (sym (r .before .before .admit-picture .ensures) ∙ r .refusal .given .1) (c .before .before .before .before .before .before .zero-three .ensures)
+    refused-first (s .args .way) (s .args .s) _ _ _ (sym (r .before .before .admit-sizes .ensures) ∙ r .refusal .given .1) (c .before .before .before .before .before .before .zero-three2 .ensures)
 
 pub convert-frame-spec : {M : Type 1} → statement M
 convert-frame-spec =
     tie.close
-    (tie.spec (λ c κs. search needs) (λ c. search needs) plan-rows-requires paint-requires (λ c. search needs)
-    (λ c κs. search needs) (λ c. search needs) (λ c. search needs) (λ c. search needs) returns (λ c. search needs)
-    (λ c. search needs) (λ c. search needs) returns-2)
+    (tie.spec (λ c κs. search needs) (λ c. search needs) painted-requires (λ c. search needs) (λ c. search needs) (λ c. search needs) returns
+    (λ c κs. search needs) (λ c κs. search needs) (λ c κs. search needs) (λ c. search needs) (λ c κs. search needs) (λ c. search needs)
+    (λ c. search needs) (λ c. search needs) returns-2 (λ c. search needs) (λ c. search needs) (λ c. search needs) returns-3)

@@ -8,7 +8,7 @@ paint-whole-requires c κs =
     let p = c .before .before .before .before .before .before .before .before .before .before .before .pre in
     let input = c .before .before .before .before .if1 .taken in
     let output = c .before .before .before .if2 .taken in
-    (p .0, (rw input at (p .1 .0), (rw output at (p .1 .1 .0), rw input at (p .1 .1 .1))))
+    (p .0, (p .1 .0, (rw input at (p .1 .1 .0), rw output at (p .1 .1 .1))))
 
 returns : tie.Need-returns
 returns c = rw (c .before .before .before .before .before .before .before .before .before .before .before .if1 .taken, c .before .before .before .before .before .before .before .before .before .before .if2 .taken) (c .before .before .before .before .before .before .paint-whole .ensures)
