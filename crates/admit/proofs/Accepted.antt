@@ -24,13 +24,13 @@ use Rattle.setting.specs.declared.Setting.{Setting}
 use Rattle.setting.specs.declared.admission.Admission.the-variants as admission
 use Rattle.setting.specs.declared.admission.Served.{Served}
 use Rattle.setting.proofs.ReadyLaws.{ready}
-use Rattle.planes.specs.First.{NotAbove, badRule}
+use Rattle.scan.specs.First.{NotAbove, badRule}
 use Rattle.planes.specs.Picture.{Picture, layoutOf, EveryPixel}
 use Rattle.planes.specs.Sizes.{sizeRules, EveryLayout, Fits}
-use Rattle.planes.specs.declared.search.Found.{Found}
-use Rattle.planes.specs.declared.search.Found.the-variants.{At, Nothing}
+use Rattle.scan.specs.declared.Found.{Found}
+use Rattle.scan.specs.declared.Found.the-variants.{At, Nothing}
 use Rattle.planes.specs.declared.size.Layout.{Layout}
-use Rattle.planes.proofs.SearchTheorems.{nothing-in-pixels-means}
+use Rattle.scan.proofs.SearchTheorems.{nothing-in-pixels-means}
 use Rattle.planes.proofs.SizeTheorems.{fits}
 use Rattle.admit.specs.Rules.{callAdmission, sizedAdmission, beyondDepth, pixelPicture, pixelAdmission, sampleAdmission}
 use Rattle.admit.proofs.AdmitLaws.{admitted-passed, in-turn, by-sample}

@@ -16,10 +16,10 @@ use Rattle.setting.specs.declared.admission.Admission.{Admission}
 use Rattle.setting.specs.declared.admission.Admission.the-variants as admission
 use Rattle.setting.specs.declared.admission.Served.{Served}
 use Rattle.setting.proofs.ReadyLaws.{ready}
-use Rattle.planes.specs.First.{badRule}
+use Rattle.scan.specs.First.{badRule}
 use Rattle.planes.specs.Picture.{Picture, layoutOf}
-use Rattle.planes.specs.declared.search.Found.{Found}
-use Rattle.planes.specs.declared.search.Found.the-variants.{At, Nothing}
+use Rattle.scan.specs.declared.Found.{Found}
+use Rattle.scan.specs.declared.Found.the-variants.{At, Nothing}
 use Rattle.planes.proofs.SizeTheorems.{twice}
 use Rattle.admit.specs.Rules.{callRules, callAdmission, pictureAdmission}
 

@@ -16,11 +16,11 @@ use Rattle.setting.specs.declared.Call.{Call}
 use Rattle.setting.specs.declared.Call.the-variants as call
 use Rattle.setting.specs.declared.Setting.{Setting}
 use Rattle.setting.specs.declared.admission.Admission.{Admission}
-use Rattle.planes.specs.First.{firstBad, badSample, badRule}
+use Rattle.scan.specs.First.{firstBad, badSample, badRule}
 use Rattle.planes.specs.Picture.{Picture, picture, layoutOf}
 use Rattle.planes.specs.Sizes.{sizeRules}
-use Rattle.planes.specs.declared.search.Found.{Found}
-use Rattle.planes.specs.declared.search.Found.the-variants.{Nothing}
+use Rattle.scan.specs.declared.Found.{Found}
+use Rattle.scan.specs.declared.Found.the-variants.{Nothing}
 use Rattle.planes.specs.declared.size.Layout.{Layout}
 
 -- a call with some rules on sizes, whose first bad sample is looked for

@@ -5,18 +5,18 @@ ghost use lib.ListN.{length};
 ghost use Rattle.sample.specs.Depth.{ThreeDepths};
 ghost use Rattle.refusal.specs.Rules.{first};
 ghost use Rattle.setting.specs.Rules.{admitted};
-ghost use Rattle.planes.specs.First.{badRule};
+ghost use Rattle.scan.specs.First.{badRule};
 ghost use Rattle.planes.specs.Picture.{picture};
 ghost use Rattle.planes.specs.Sizes.{Sized, Long, needed, sizeRules};
 ghost use Rattle.admit.specs.Rules.{beyondDepth, pixelPicture, topOf, badOne, sizedAdmission, pictureAdmission, pixelAdmission, sampleAdmission};
 use meter::SampleKind;
-use planes::search::Found;
 use planes::size::Layout;
 use refusal::Check;
 use refusal::Refusal;
 use sample::Depths;
 use sample::Pixel;
 use sample::Side;
+use scan::Found;
 use setting::Call;
 use setting::Setting;
 use setting::admission::Admission;
@@ -40,7 +40,7 @@ fn bad_pixel(side: Side, d: Depths, p: Pixel) -> Found
     let a = [p.p0];
     let b = [p.p1];
     let c = [p.p2];
-    planes::search::first_bad_of_three(&a, &b, &c, 1, 1, 1, d.tops(side))
+    scan::first_bad_of_three(&a, &b, &c, 1, 1, 1, d.tops(side))
 }
 
 // A call that is handed a whole pixel.
@@ -74,7 +74,7 @@ fn bad_one(kind: SampleKind, d: Depths, v: u16) -> Found
     let top = top_of(kind, d);
     let plane = meter::plane_of(kind);
     let a = [v];
-    planes::search::first_bad(&a, plane, 1, 1, 1, top)
+    scan::first_bad(&a, plane, 1, 1, 1, top)
 }
 
 // The meter on one sample, which alone is tested.
@@ -139,6 +139,6 @@ pub fn admit_picture(
     let tops = depths.tops(setting::reads(call));
     past(
         served,
-        planes::search::first_bad_of_three(a0, a1, a2, width, height, stride, tops),
+        scan::first_bad_of_three(a0, a1, a2, width, height, stride, tops),
     )
 }

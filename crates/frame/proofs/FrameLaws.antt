@@ -15,7 +15,7 @@ use Rattle.setting.specs.declared.Way.{Way}
 use Rattle.setting.specs.declared.admission.Admission.{Admission}
 use Rattle.setting.specs.declared.admission.Admission.the-variants as admission
 use Rattle.setting.specs.declared.admission.Served.{Served}
-use Rattle.planes.specs.First.{NotAbove}
+use Rattle.scan.specs.First.{NotAbove}
 use Rattle.planes.specs.Picture.{Picture, layoutOf, sampleOf, pixelOf, EveryPixel}
 use Rattle.planes.specs.Plane.{zeros}
 use Rattle.planes.specs.Sizes.{sizeRules, Fits}

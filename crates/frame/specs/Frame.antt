@@ -14,7 +14,7 @@ use Rattle.setting.specs.declared.Way.{Way}
 use Rattle.setting.specs.declared.admission.Admission.{Admission}
 use Rattle.setting.specs.declared.admission.Admission.the-variants as admission
 use Rattle.setting.specs.declared.admission.Served.{Served}
-use Rattle.planes.specs.First.{NotAbove, Tells}
+use Rattle.scan.specs.First.{NotAbove, Tells}
 use Rattle.planes.specs.Picture.{Picture, picture, pixelOf, sampleOf, EveryPixel}
 use Rattle.planes.specs.Plane.{zeros, planeOf, patched}
 use Rattle.planes.specs.Sizes.{layout}

@@ -2,7 +2,7 @@
 // tested while it is at hand: a sample above its top ends the painting, and the answer is no.
 ghost use Prim.Native.Nat.{_+_};
 ghost use lib.ListN.{length};
-ghost use Rattle.planes.specs.First.{Tells};
+ghost use Rattle.scan.specs.First.{Tells};
 ghost use Rattle.planes.specs.Picture.{picture, layoutOf};
 ghost use Rattle.planes.specs.Sizes.{layout, Long, Fits};
 ghost use Rattle.row_plan.specs.RowPlan.{rowPlanned, RowRoomy};
@@ -17,7 +17,7 @@ fn row_fine(tops: Pixel, from: usize, n: usize, a0: &[u16], a1: &[u16], a2: &[u1
     requires { ⌜ Long (from + n) (length (now a0)) (length (now a1)) (length (now a2)) ⌝ }
     ensures { λ r. ⌜ Tells r (FineParts tops from n (now (a0 .entry)) (now (a1 .entry)) (now (a2 .entry))) ⌝ }
 {
-    planes::search::runs_fine(tops, from, n, a0, a1, a2)
+    scan::runs_fine(tops, from, n, a0, a1, a2)
 }
 
 // One row, from index `from` of the planes that are read to index `to` of those that are written.

@@ -8,10 +8,10 @@ use Rattle.setting.specs.declared.Setting.{Setting}
 use Rattle.setting.specs.declared.admission.Admission.{Admission}
 use Rattle.setting.specs.declared.admission.Admission.the-variants as admission
 use Rattle.setting.specs.declared.admission.Served.{Served}
-use Rattle.planes.specs.First.{firstPlace}
+use Rattle.scan.specs.First.{firstPlace}
 use Rattle.planes.specs.Picture.{Picture, pixelOf}
-use Rattle.planes.specs.declared.search.Found.{Found}
-use Rattle.planes.specs.declared.search.Found.the-variants as found
+use Rattle.scan.specs.declared.Found.{Found}
+use Rattle.scan.specs.declared.Found.the-variants as found
 use Rattle.plan.specs.Source.{hasSource}
 use Rattle.admit.specs.Rules.{pictureAdmission}
 use Rattle.image_check.specs.declared.ImageAnswer.{ImageAnswer}

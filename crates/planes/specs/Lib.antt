@@ -1,5 +1,4 @@
--- The limits of sizes, what a plane and a picture hold, and which sample is the first bad one.
+-- The limits of sizes, and what a plane and a picture hold.
 pub mod Sizes
 pub mod Plane
 pub mod Picture
-pub mod First

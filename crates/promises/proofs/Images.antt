@@ -15,10 +15,10 @@ use Rattle.refusal.specs.declared.Place.{Place}
 use Rattle.planes.specs.Picture.{Picture, picture, pixelOf, layoutOf}
 use Rattle.planes.specs.Plane.{sampleAt}
 use Rattle.planes.specs.Sizes.{needed, LongEnough}
-use Rattle.planes.specs.declared.search.Found.{Found}
-use Rattle.planes.specs.declared.search.Found.the-variants as found
+use Rattle.scan.specs.declared.Found.{Found}
+use Rattle.scan.specs.declared.Found.the-variants as found
 use Rattle.planes.proofs.PlaneTheorems.{plane-length, plane-inside}
-use Rattle.planes.proofs.Searches.{no-place-means, first-place-means}
+use Rattle.scan.proofs.Searches.{no-place-means, first-place-means}
 use Rattle.planes.proofs.SizeLaws.{index-inside}
 use Rattle.setting.specs.Ready.{Ready}
 use Rattle.setting.specs.Rules.{depths, served}

@@ -7,7 +7,7 @@ use Rattle.rounding.specs.Rounding.{half, round, clip, sample}
 use Rattle.sample.specs.Depth.{isDepth, areDepths, atMost}
 use Rattle.sample.specs.declared.Pixel.{Pixel}
 use Rattle.refusal.specs.Rules.{first}
-use Rattle.planes.specs.First.{orFound, firstOf, placeIf, placeInRow, firstPlace, badSample}
+use Rattle.scan.specs.First.{orFound, firstOf, placeIf, placeInRow, firstPlace, badSample}
 use Rattle.ycgco.specs.YCgCo.{lossyForward, lossyReverse, losslessForward, losslessReverse}
 use Rattle.levels.specs.Conversion.{levelsForward, levelsReverse}
 use Rattle.levels.specs.Equations.{lumaMatrix}

@@ -21,8 +21,8 @@ use Rattle.setting.specs.declared.Setting.{Setting}
 use Rattle.setting.specs.declared.Way.{Way}
 use Rattle.setting.specs.declared.admission.Admission.the-variants as admission
 use Rattle.setting.proofs.ReadyLaws.{ready, is-kept}
-use Rattle.planes.specs.declared.search.Found.the-variants as found
-use Rattle.planes.proofs.SearchTheorems.{nothing-means}
+use Rattle.scan.specs.declared.Found.the-variants as found
+use Rattle.scan.proofs.SearchTheorems.{nothing-means}
 use Rattle.meter.specs.Level.{planeNumber, levelOf, levelsOf}
 use Rattle.meter.specs.declared.SampleKind.{SampleKind}
 use Rattle.meter.specs.declared.SampleKind.the-variants as kind

@@ -25,13 +25,13 @@ use Rattle.setting.specs.declared.admission.Admission.the-variants as admission
 use Rattle.setting.specs.declared.admission.Served.{Served}
 use Rattle.meter.specs.Level.{planeNumber}
 use Rattle.meter.specs.declared.SampleKind.{SampleKind}
-use Rattle.planes.specs.First.{badRule}
+use Rattle.scan.specs.First.{badRule}
 use Rattle.planes.specs.Picture.{Picture, layoutOf}
 use Rattle.planes.specs.Sizes.{sizeRules}
-use Rattle.planes.specs.declared.search.Found.{Found}
-use Rattle.planes.specs.declared.search.Found.the-variants as found
+use Rattle.scan.specs.declared.Found.{Found}
+use Rattle.scan.specs.declared.Found.the-variants as found
 use Rattle.planes.specs.declared.size.Layout.{Layout}
-use Rattle.planes.proofs.SearchTheorems.{at-in-planes-means, at-means}
+use Rattle.scan.proofs.SearchTheorems.{at-in-planes-means, at-means}
 use Rattle.plan.specs.Source.{hasSource}
 use Rattle.admit.specs.Rules.{callRules, callAdmission, pictureRules, pixelRules, sampleRules, pixelPicture, topOf}
 use Rattle.admit.proofs.Accepted.{Accepted, accepted-of, of-accepted}

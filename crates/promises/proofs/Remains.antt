@@ -7,8 +7,8 @@ use lib.ListN.{length}
 use Rattle.planes.specs.Picture.{Picture, picture, pixelOf, sampleOf}
 use Rattle.planes.specs.declared.size.Layout.{Layout}
 use Rattle.planes.proofs.PlaneTheorems.{plane-same, pixel-same}
-use Rattle.planes.proofs.Searches.{first-place-same}
-use Rattle.planes.proofs.SearchTheorems.{bad-sample-same}
+use Rattle.scan.proofs.Searches.{first-place-same}
+use Rattle.scan.proofs.SearchTheorems.{bad-sample-same}
 use Rattle.setting.specs.declared.Call.{Call}
 use Rattle.setting.specs.declared.Call.the-variants as call
 use Rattle.setting.specs.declared.Setting.{Setting}

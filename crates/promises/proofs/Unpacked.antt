@@ -18,11 +18,11 @@ use Rattle.refusal.specs.declared.Refusal.{Refusal}
 use Rattle.refusal.proofs.RuleLaws.{EveryRule, first-has}
 use Rattle.planes.specs.Picture.{Picture, layoutOf}
 use Rattle.planes.specs.Sizes.{sizeRules}
-use Rattle.planes.specs.declared.search.Found.{Found}
-use Rattle.planes.specs.declared.search.Found.the-variants as found
+use Rattle.scan.specs.declared.Found.{Found}
+use Rattle.scan.specs.declared.Found.the-variants as found
 use Rattle.planes.specs.declared.size.Layout.{Layout}
-use Rattle.planes.proofs.SearchTheorems.{at-in-planes-means, at-means}
-use Rattle.planes.proofs.Searches.{first-place-means}
+use Rattle.scan.proofs.SearchTheorems.{at-in-planes-means, at-means}
+use Rattle.scan.proofs.Searches.{first-place-means}
 use Rattle.planes.proofs.SizeTheorems as sizes
 use Rattle.setting.specs.Call.{inputOf}
 use Rattle.setting.specs.Rules.{depths, served, settingRules}

@@ -14,7 +14,7 @@ use Rattle.admit.specs.Rules.{callAdmission}
 use Rattle.rounding.specs.Rounding.{half, clip, sample}
 use Rattle.sample.specs.Depth.{isDepth, areDepths, atMost}
 use Rattle.refusal.specs.Rules.{first, numbered}
-use Rattle.planes.specs.First.{orFound, firstOf, placeIf, placeInRow, firstPlace, badSample}
+use Rattle.scan.specs.First.{orFound, firstOf, placeIf, placeInRow, firstPlace, badSample}
 use Rattle.ycgco.specs.YCgCo.{losslessForward, losslessReverse}
 use Rattle.setting.specs.Agreement.{depthsServed, agree}
 use Rattle.plan.specs.Conversion.{convert}

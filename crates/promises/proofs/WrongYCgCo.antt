@@ -11,7 +11,7 @@ use Rattle.rounding.specs.Rounding.{half, clip}
 use Rattle.sample.specs.Depth.{isDepth, areDepths, atMost}
 use Rattle.sample.specs.declared.Pixel.{Pixel}
 use Rattle.refusal.specs.Rules.{first}
-use Rattle.planes.specs.First.{orFound, firstOf, placeIf, placeInRow, firstPlace, badSample}
+use Rattle.scan.specs.First.{orFound, firstOf, placeIf, placeInRow, firstPlace, badSample}
 use Rattle.ycgco.specs.YCgCo.{losslessReverse}
 use Rattle.setting.specs.Agreement.{depthsServed, agree}
 use Rattle.setting.specs.Label.{among, labelled}

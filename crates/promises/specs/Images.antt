@@ -11,7 +11,7 @@ use Rattle.setting.specs.Rules.{depths, served}
 use Rattle.setting.specs.declared.Call.the-variants.{ImageCheck}
 use Rattle.setting.specs.declared.Setting.{Setting}
 use Rattle.setting.specs.declared.Way.the-variants.{Forward}
-use Rattle.planes.specs.First.{IsFirstPlace}
+use Rattle.scan.specs.First.{IsFirstPlace}
 use Rattle.planes.specs.Picture.{Picture, pixelOf, layoutOf, EveryPixel}
 use Rattle.planes.specs.Sizes.{LongEnough}
 use Rattle.plan.specs.Conversion.{convert}

@@ -12,7 +12,7 @@ use Rattle.setting.specs.Rules.{depths}
 use Rattle.setting.specs.declared.Setting.{Setting}
 use Rattle.meter.specs.Level.{planeNumber}
 use Rattle.meter.specs.declared.SampleKind.{SampleKind}
-use Rattle.planes.specs.First.{IsBadSample, IsFirstBad}
+use Rattle.scan.specs.First.{IsBadSample, IsFirstBad}
 use Rattle.planes.specs.Picture.{Picture}
 use Rattle.admit.specs.Rules.{pixelPicture, topOf}
 use Rattle.corkplover.specs.Meaning.{Meaning, meaningRefusal}

@@ -1,6 +1,6 @@
 // What every crate above speaks of: depths of three kinds that cannot be taken for each other, and a pixel.
 ghost use mathlib.Core.Path.{_≡_};
-ghost use Prim.Native.Nat.{_^_, _≤_, _<_};
+ghost use Prim.Native.Nat.{_^_, _≤_, _<_, max};
 ghost use Rattle.sample.specs.Depth.{mostDepth, Depth, rgbChecked, lumaChecked, chromaChecked, depthsChecked, ThreeDepths, atMost, M, middleOf, S, tops};
 
 // Three samples, by plane: R, G, B on one side and Y, Cb, Cr on the other.
@@ -246,4 +246,14 @@ fn step(depth: u8) -> u16
     ensures { λ r. ⌜ r ≡ S depth ⌝ }
 {
     power(depth - 8)
+}
+
+// The larger of two samples.
+pub fn larger(a: u16, b: u16) -> u16
+    ensures { λ r. ⌜ r ≡ max a b ⌝ }
+{
+    if a < b {
+        return b;
+    }
+    a
 }

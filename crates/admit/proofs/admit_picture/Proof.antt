@@ -6,7 +6,7 @@ use Rattle.refusal.specs.Rules.{first}
 use Rattle.sample.specs.Depth.{tops}
 use Rattle.setting.specs.Rules.{admitted}
 use Rattle.setting.specs.declared.admission.Admission.the-variants.{Admitted}
-use Rattle.planes.specs.First.{badRule, badSample}
+use Rattle.scan.specs.First.{badRule, badSample}
 use Rattle.planes.specs.Picture.{Picture, picture, layoutOf}
 use Rattle.planes.specs.Sizes.{sizeRules}
 use Rattle.planes.proofs.SizeTheorems.{fits}

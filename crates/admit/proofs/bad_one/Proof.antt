@@ -1,7 +1,7 @@
 -- `admit::bad_one` meets its contract: one sample is a picture of one row and one column.
 use mathlib.Core.Path.{_∙_}
 use mathlib.Core.List.{[], _∷_}
-use Rattle.planes.specs.First.{firstBad}
+use Rattle.scan.specs.First.{firstBad}
 use borrow.Author.Needs.{needs}
 use Rattle.admit.proofs.bad_one.Statement.{statement}
 use Rattle.admit.proofs.bad_one.Tie as tie

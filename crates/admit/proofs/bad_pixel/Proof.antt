@@ -1,7 +1,7 @@
 -- `admit::bad_pixel` meets its contract: a pixel is a picture of one row and one column.
 use mathlib.Core.Path.{_∙_, ap}
 use borrow.Author.Needs.{needs}
-use Rattle.planes.specs.First.{badSample}
+use Rattle.scan.specs.First.{badSample}
 use Rattle.admit.specs.Rules.{pixelPicture}
 use Rattle.admit.proofs.bad_pixel.Statement.{statement}
 use Rattle.admit.proofs.bad_pixel.Tie as tie

@@ -6,7 +6,7 @@ use Prim.Native.Nat.{_+_, _-_}
 use native.Mathlib.Omega.{arith}
 use borrow.Author.Needs.{needs}
 use Rattle.planes.specs.Picture.{picture}
-use Rattle.planes.proofs.Walks.{Walked, walked-none, walked-past, walked-column, walked-row, walked-over, walked-all, walked-here}
+use Rattle.scan.proofs.Walks.{Walked, walked-none, walked-past, walked-column, walked-row, walked-over, walked-all, walked-here}
 use Rattle.plan.specs.Plan.{planned, Takes}
 use Rattle.plan.specs.Source.{comesBack}
 use Rattle.convert.proofs.RunLaws.{row-run, run-of-every, pixel-of-part}

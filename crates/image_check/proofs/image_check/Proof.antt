@@ -9,7 +9,7 @@ use Rattle.setting.specs.declared.Call.the-variants.{ImageCheck}
 use Rattle.setting.specs.declared.admission.Served.{Served as ServedSetting}
 use Rattle.planes.specs.Picture.{Picture, picture, layoutOf, pixelOf, EveryPixel}
 use Rattle.planes.specs.Sizes.{Fits}
-use Rattle.planes.proofs.Searches.{first-place-same}
+use Rattle.scan.proofs.Searches.{first-place-same}
 use Rattle.plan.proofs.PlanLaws.{plans-as}
 use Rattle.plan.proofs.SourceLaws.{takes-back, takes-forth, comes-back-as}
 use Rattle.admit.specs.Rules.{pictureAdmission}

@@ -6,7 +6,7 @@ use Prim.Native.Nat.{_+_}
 use borrow.Author.Needs.{needs}
 use borrow.Author.Tests.{not-true, not-false}
 use Rattle.planes.specs.Plane.{patched}
-use Rattle.planes.proofs.Searches.{yes, no}
+use Rattle.scan.proofs.Searches.{yes, no}
 use Rattle.frame.proofs.PaintLaws.{parts-one-width}
 use Rattle.frame.proofs.paint.paint_row.Statement.{statement}
 use Rattle.frame.proofs.paint.paint_row.Tie as tie

@@ -7,10 +7,10 @@ use native.Mathlib.Omega.{arith}
 use borrow.Author.Needs.{needs}
 use borrow.Author.Tests.{not-true, not-false}
 use lib.ListN.{length}
-use Rattle.planes.specs.First.{NotAbove}
+use Rattle.scan.specs.First.{NotAbove}
 use Rattle.planes.specs.Picture.{picture}
 use Rattle.planes.specs.Sizes.{layout}
-use Rattle.planes.proofs.Searches.{yes, no}
+use Rattle.scan.proofs.Searches.{yes, no}
 use Rattle.row_plan.specs.RowPlan.{rowPlanned}
 use Rattle.frame.specs.Frame.{inputPicture, outputLayout}
 use Rattle.frame.proofs.PaintLaws.{Painting, painting-none, Seen, seen-none, seen-more, seen-all, Turn, output-long, row-room, row-of-every, painting-more, rest-long, painting-end}

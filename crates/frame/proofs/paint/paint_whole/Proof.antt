@@ -6,11 +6,11 @@ use native.Mathlib.Omega.{arith}
 use borrow.Author.Needs.{needs}
 use borrow.Author.Tests.{not-true, not-false}
 use lib.ListN.{length}
-use Rattle.planes.specs.First.{NotAbove}
+use Rattle.scan.specs.First.{NotAbove}
 use Rattle.planes.specs.Picture.{Picture, picture}
 use Rattle.planes.specs.Sizes.{layout}
 use Rattle.planes.specs.declared.size.Layout.{Layout}
-use Rattle.planes.proofs.Searches.{yes, no}
+use Rattle.scan.proofs.Searches.{yes, no}
 use Rattle.row_plan.specs.RowPlan.{rowPlanned}
 use Rattle.frame.proofs.PaintLaws.{Whole, whole-room, whole-of-every, every-of-whole, painting-whole, rest-long, painting-end}
 use Rattle.frame.proofs.paint.paint_whole.Statement.{statement}

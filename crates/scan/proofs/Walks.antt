@@ -10,10 +10,10 @@ use Prim.Native.Nat.{ℕ, _+_, _≤_, _<_}
 use native.Mathlib.Omega.{arith}
 use borrow.Author.Count.{below-none, below-more}
 use Rattle.refusal.specs.Rules.{at}
-use Rattle.planes.specs.First.{firstPlace}
-use Rattle.planes.specs.declared.search.Found.{Found}
-use Rattle.planes.specs.declared.search.Found.the-variants.{At, Nothing}
-use Rattle.planes.proofs.Searches.{no-place-means, first-place-means}
+use Rattle.scan.specs.First.{firstPlace}
+use Rattle.scan.specs.declared.Found.{Found}
+use Rattle.scan.specs.declared.Found.the-variants.{At, Nothing}
+use Rattle.scan.proofs.Searches.{no-place-means, first-place-means}
 
 -- the test fails at every column of row j before column i
 abbrev pub NoneBefore : (ℕ → ℕ → Bool) → ℕ → ℕ → Type 0

@@ -1,4 +1,4 @@
--- `planes::search::whole_fine` meets its contract: where the stride is the width, every sample of the picture is in the part that is lent.
+-- `scan::whole_fine` meets its contract: where the stride is the width, every sample of the picture is in the part that is lent.
 use mathlib.Core.Path.{sym}
 use mathlib.Core.Bool.{true≢false}
 use Prim.Native.Nat.{_+_, _*_}
@@ -6,10 +6,10 @@ use native.Mathlib.Nat.{zero-add}
 use native.Mathlib.Omega.{arith}
 use borrow.Author.Needs.{needs}
 use borrow.Author.Tests.{leb-true}
-use Rattle.planes.proofs.Searches.{part-fine}
+use Rattle.scan.proofs.Searches.{part-fine}
 use Rattle.planes.proofs.SizeLaws.{index-inside}
-use Rattle.planes.proofs.search.whole_fine.Statement.{statement}
-use Rattle.planes.proofs.search.whole_fine.Tie as tie
+use Rattle.scan.proofs.whole_fine.Statement.{statement}
+use Rattle.scan.proofs.whole_fine.Tie as tie
 
 returns-2 : tie.Need-returns-2
 returns-2 c e j i h k =

@@ -1,9 +1,9 @@
--- `planes::search::first_bad_of_three` meets its contract: a plane is searched where the planes below it have no bad sample.
+-- `scan::first_bad_of_three` meets its contract: a plane is searched where the planes below it have no bad sample.
 use mathlib.Core.Path.{sym, _∙_}
 use borrow.Author.Needs.{needs}
-use Rattle.planes.specs.First.{orFound, firstOf, badSample}
-use Rattle.planes.proofs.search.first_bad_of_three.Statement.{statement}
-use Rattle.planes.proofs.search.first_bad_of_three.Tie as tie
+use Rattle.scan.specs.First.{orFound, firstOf, badSample}
+use Rattle.scan.proofs.first_bad_of_three.Statement.{statement}
+use Rattle.scan.proofs.first_bad_of_three.Tie as tie
 
 returns : tie.Need-returns
 unfolding badSample firstOf orFound

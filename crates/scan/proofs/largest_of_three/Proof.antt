@@ -1,13 +1,13 @@
--- `planes::search::largest_of_three` meets its contract: of each list the largest of the elements passed so far is at hand.
+-- `scan::largest_of_three` meets its contract: of each list the largest of the elements passed so far is at hand.
 use mathlib.Core.Path.{_≡_, refl, sym, ap, _∙_}
 use Prim.Native.Nat.{_≤_, _-_, max}
 use native.Mathlib.Omega.{arith}
 use borrow.Author.Needs.{needs}
 use lib.ListN.{length, getD}
-use Rattle.planes.specs.First.{largestOf, largestPixel}
-use Rattle.planes.proofs.Searches.{largest-more}
-use Rattle.planes.proofs.search.largest_of_three.Statement.{statement}
-use Rattle.planes.proofs.search.largest_of_three.Tie as tie
+use Rattle.scan.specs.First.{largestOf, largestPixel}
+use Rattle.scan.proofs.Searches.{largest-more}
+use Rattle.scan.proofs.largest_of_three.Statement.{statement}
+use Rattle.scan.proofs.largest_of_three.Tie as tie
 
 abbrev Inv-loop : tie.InvT-loop
 Inv-loop s0 s1 s2 m0₀ m1₀ m2₀ i₀ i-end m0 m1 m2 i =

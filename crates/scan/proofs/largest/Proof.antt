@@ -1,14 +1,14 @@
--- `planes::search::largest` meets its contract: m is the largest of the elements passed so far, whichever way the branch went.
+-- `scan::largest` meets its contract: m is the largest of the elements passed so far, whichever way the branch went.
 use mathlib.Core.Path.{_≡_, refl, ap, _∙_}
 use mathlib.Core.Logic.{⊎-elim}
 use Prim.Native.Nat.{_≤_, _-_}
 use native.Mathlib.Omega.{arith}
 use borrow.Author.Needs.{needs}
 use lib.ListN.{length}
-use Rattle.planes.specs.First.{largestOf}
-use Rattle.planes.proofs.Searches.{largest-more}
-use Rattle.planes.proofs.search.largest.Statement.{statement}
-use Rattle.planes.proofs.search.largest.Tie as tie
+use Rattle.scan.specs.First.{largestOf}
+use Rattle.scan.proofs.Searches.{largest-more}
+use Rattle.scan.proofs.largest.Statement.{statement}
+use Rattle.scan.proofs.largest.Tie as tie
 
 abbrev Inv-loop : tie.InvT-loop
 Inv-loop s m₀ i₀ i-end m i = (i ≤ i-end) × ((i-end ≡ length s) × (m ≡ largestOf i s))

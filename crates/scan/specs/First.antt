@@ -10,10 +10,10 @@ use lib.ListN.{getD}
 use Rattle.refusal.specs.Rules.{Rule, rule, at, badAt}
 use Rattle.refusal.specs.declared.Place.{Place}
 use Rattle.sample.specs.declared.Pixel.{Pixel}
 use Rattle.planes.specs.Plane.{sampleAt}
 use Rattle.planes.specs.Picture.{Picture, planeAt, sampleOf}
-use Rattle.planes.specs.declared.search.Found.{Found}
-use Rattle.planes.specs.declared.search.Found.the-variants.{At, Nothing}
+use Rattle.scan.specs.declared.Found.{Found}
+use Rattle.scan.specs.declared.Found.the-variants.{At, Nothing}
 
 -- a, unless it is Nothing, and then b
 unfoldable pub orFound : Found → Found → Found

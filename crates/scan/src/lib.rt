@@ -1,14 +1,15 @@
 // Rule 10: the first sample of a picture that is beyond its depth.
 ghost use mathlib.Core.Path.{_≡_};
 ghost use mathlib.Core.Bool.{true};
-ghost use Prim.Native.Nat.{_+_, _≤_, max};
+ghost use Prim.Native.Nat.{_+_, _≤_};
 ghost use lib.ListN.{length};
 ghost use Rattle.planes.specs.Sizes.{Sized, Long, needed};
 ghost use Rattle.planes.specs.Picture.{picture};
-ghost use Rattle.planes.specs.First.{largestOf, largestPixel, firstBad, badSample, AllFine, RunsFine, Tells};
-use crate::size::row_start;
+ghost use Rattle.scan.specs.First.{largestOf, largestPixel, firstBad, badSample, AllFine, RunsFine, Tells};
+use planes::size::row_start;
 use refusal::Place;
 use sample::Pixel;
+use sample::larger;
 
 // What a search finds.
 pub enum Found {
@@ -28,16 +29,6 @@ fn largest(s: &[u16]) -> u16
         }
     }
     m
-}
-
-// The larger of two.
-pub fn larger(a: u16, b: u16) -> u16
-    ensures { λ r. ⌜ r ≡ max a b ⌝ }
-{
-    if a < b {
-        return b;
-    }
-    a
 }
 
 // The largest element of each of three, in one walk: what has to be fetched of one is fetched while another is looked at.

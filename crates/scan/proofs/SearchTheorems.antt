@@ -8,11 +8,11 @@ use native.Mathlib.Omega.{arith}
 use borrow.Author.Tests.{ltb-true, ltb-false, lt-ltb, le-ltb}
 use Rattle.sample.specs.declared.Pixel.{Pixel}
 use Rattle.refusal.specs.declared.Place.{Place}
 use Rattle.planes.specs.Plane.{sampleAt, SamePicture}
 use Rattle.planes.specs.Picture.{Picture, picture, planeAt, sampleOf, EveryPixel}
-use Rattle.planes.specs.First.{firstOf, isAbove, firstBad, badInPlane, badSample, AllFine, FinePlane, IsFirstBad, IsBadInPlane, IsBadSample, NotAbove}
-use Rattle.planes.specs.declared.search.Found.the-variants.{At, Nothing}
-use Rattle.planes.proofs.Searches.{nothing-exactly, found-exactly, no-place-means, first-place-means, first-place-same}
+use Rattle.scan.specs.First.{firstOf, isAbove, firstBad, badInPlane, badSample, AllFine, FinePlane, IsFirstBad, IsBadInPlane, IsBadSample, NotAbove}
+use Rattle.scan.specs.declared.Found.the-variants.{At, Nothing}
+use Rattle.scan.proofs.Searches.{nothing-exactly, found-exactly, no-place-means, first-place-means, first-place-same}
 
 -- ---- one plane
 

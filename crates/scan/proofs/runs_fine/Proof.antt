@@ -1,15 +1,15 @@
--- `planes::search::runs_fine` meets its contract: no sample of a run is above the largest of the part that holds it, and that is one of them.
+-- `scan::runs_fine` meets its contract: no sample of a run is above the largest of the part that holds it, and that is one of them.
 use mathlib.Core.Path.{_≡_, ap, _∙_}
 use Prim.Native.Nat.{_+_, _-_}
 use native.Mathlib.Omega.{arith}
 use borrow.Author.Needs.{needs}
 use lib.ListN.{length, take, drop}
 use Rattle.sample.specs.declared.Pixel.{Pixel}
-use Rattle.planes.specs.First.{largestPixel}
-use Rattle.planes.proofs.Searches.{yes, no, run-within, run-past}
+use Rattle.scan.specs.First.{largestPixel}
+use Rattle.scan.proofs.Searches.{yes, no, run-within, run-past}
 use Rattle.planes.proofs.Tables.{part-width}
-use Rattle.planes.proofs.search.runs_fine.Statement.{statement}
-use Rattle.planes.proofs.search.runs_fine.Tie as tie
+use Rattle.scan.proofs.runs_fine.Statement.{statement}
+use Rattle.scan.proofs.runs_fine.Tie as tie
 
 -- the largest of each part, which has n elements
 most-is : (c : tie.After-largest-of-three) → let x = c .before .before .before .before .before .before .before .args in

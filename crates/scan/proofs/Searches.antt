@@ -10,11 +10,11 @@ use lib.ListN.{length, getD, take, drop}
 use Rattle.sample.proofs.Choices.{chose-first, chose-second}
 use Rattle.refusal.specs.Rules.{at}
 use Rattle.refusal.specs.declared.Place.{Place}
-use Rattle.planes.specs.First.{orFound, firstOf, placeIf, placeInRow, firstPlace, IsFirstPlace, largestOf, RunFine, Tells}
-use Rattle.planes.specs.declared.search.Found.{Found}
-use Rattle.planes.specs.declared.search.Found.the-variants.{At, Nothing}
+use Rattle.scan.specs.First.{orFound, firstOf, placeIf, placeInRow, firstPlace, IsFirstPlace, largestOf, RunFine, Tells}
+use Rattle.scan.specs.declared.Found.{Found}
+use Rattle.scan.specs.declared.Found.the-variants.{At, Nothing}
 use Rattle.planes.specs.Plane.{sampleAt}
 use Rattle.planes.proofs.Tables.{part-length, part-at, part-sample}
 
 -- ---- answers
 

@@ -1,16 +1,16 @@
--- `planes::search::first_bad` meets its contract: it walks over the picture, and passes all of it or a row over where the
+-- `scan::first_bad` meets its contract: it walks over the picture, and passes all of it or a row over where the
 -- largest sample there is fine.
 use mathlib.Core.Path.{sym, ap}
 use Prim.Native.Nat.{_+_, _-_}
 use native.Mathlib.Omega.{arith}
 use borrow.Author.Needs.{needs}
 use borrow.Author.Tests.{lt-ltb, le-ltb}
-use Rattle.planes.specs.First.{isAbove}
-use Rattle.planes.proofs.Searches.{part-fine}
-use Rattle.planes.proofs.SearchTheorems.{nothing-means}
-use Rattle.planes.proofs.Walks.{Walked, walked-none, walked-column, walked-row, walked-over, walked-all, walked-here}
-use Rattle.planes.proofs.search.first_bad.Statement.{statement}
-use Rattle.planes.proofs.search.first_bad.Tie as tie
+use Rattle.scan.specs.First.{isAbove}
+use Rattle.scan.proofs.Searches.{part-fine}
+use Rattle.scan.proofs.SearchTheorems.{nothing-means}
+use Rattle.scan.proofs.Walks.{Walked, walked-none, walked-column, walked-row, walked-over, walked-all, walked-here}
+use Rattle.scan.proofs.first_bad.Statement.{statement}
+use Rattle.scan.proofs.first_bad.Tie as tie
 
 abbrev Inv-loop : tie.InvT-loop
 Inv-loop p plane width height stride top found₀ j a e i₀ found i = Walked (isAbove p stride top) width height found j i

@@ -1,0 +1,4 @@
+-- Laws of searches.
+pub mod Searches
+pub mod Walks
+pub mod SearchTheorems
