@@ -1,5 +1,6 @@
 -- Laws of the calls, and what the contract of each one says.
 pub mod LevelLaws
 pub mod FrameLaws
+pub mod ExportLaws
 pub mod Calls
 pub mod ExportedCalls
