@@ -37,7 +37,8 @@ static void print_refusal(const char *what, cork_answer answer)
 {
     printf("%s: refusal %d, %s", what, (int)cork_refusal_of(answer), cork_refusal_text(cork_refusal_of(answer)));
     if (cork_refusal_of(answer) == CORK_SAMPLE_TOO_LARGE)
-        printf(": plane %u, row %u, column %u", cork_plane(answer), cork_row(answer), cork_column(answer));
+        printf(": sample %u of plane %u, row %u, column %u", cork_bad_sample(answer), cork_plane(answer), cork_row(answer),
+               cork_column(answer));
     printf("\n");
 }
 

@@ -115,7 +115,7 @@ typedef enum cork_refusal {
     CORK_DEPTHS_DISAGREE = 7,      /* the depths or the flags are not as the matrix asks */
     CORK_SIZE_NOT_SERVED = 8,      /* a side outside 1 to 8192, or a stride less than the width or more than 16384 */
     CORK_PLANE_TOO_SHORT = 9,      /* a plane is shorter than cork_needed_length */
-    CORK_SAMPLE_TOO_LARGE = 10,    /* a source sample has more bits than its depth; the answer says where */
+    CORK_SAMPLE_TOO_LARGE = 10,    /* a source sample has more bits than its depth; the answer says where, and which number it is */
     CORK_NOT_FOR_THIS_SETTING = 11 /* the meter without a luma matrix, or the image check without a lossless setting */
 } cork_refusal;
 
@@ -187,6 +187,12 @@ static inline unsigned cork_row(cork_answer answer)
 static inline unsigned cork_column(cork_answer answer)
 {
     return (unsigned)(answer.packed >> 32 & 0xffff);
+}
+
+/* The number of that first sample, as it was found: 2^depth or more. Of CORK_SAMPLE_TOO_LARGE; 0 of every other refusal. */
+static inline uint16_t cork_bad_sample(cork_answer answer)
+{
+    return (uint16_t)(answer.packed >> 48);
 }
 
 /* What the meter shows: the level if it was accepted, and 0 if not. */

@@ -38,13 +38,13 @@ def refusal_text(number):
 
 
 class Refusal(Exception):
-    """Why a call was refused. Plane, row and column are 0 but for number 10: there they name the first sample too large."""
+    """Why a call was refused. Plane, row, column and sample are 0 but for number 10: there they name the first sample too large, and what it is."""
 
     def __init__(self, packed):
         self.number, self.plane = packed & 0xFF, packed >> 8 & 0xFF
-        self.row, self.column = packed >> 16 & 0xFFFF, packed >> 32 & 0xFFFF
-        place = ": plane %d, row %d, column %d" % (self.plane, self.row, self.column) if self.number == 10 else ""
-        super().__init__("refused %d: %s%s" % (self.number, refusal_text(self.number), place))
+        self.row, self.column, self.sample = packed >> 16 & 0xFFFF, packed >> 32 & 0xFFFF, packed >> 48
+        found = ": sample %d of plane %d, row %d, column %d" % (self.sample, self.plane, self.row, self.column) if self.number == 10 else ""
+        super().__init__("refused %d: %s%s" % (self.number, refusal_text(self.number), found))
         self._packed = packed
 
     def __reduce__(self):

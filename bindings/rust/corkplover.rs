@@ -38,13 +38,15 @@ pub enum Label {
     Reserved,
 }
 
-/// Why a call was refused. Plane, row and column are 0 but for number 10, where they name the first sample that is too large.
+/// Why a call was refused. Plane, row, column and sample are 0 but for number 10, where they name the first sample that is too large: where it
+/// stands, and its number as it was found.
 #[derive(Clone, Copy, Debug, PartialEq, Eq)]
 pub struct Refusal {
     pub number: u8,
     pub plane: u8,
     pub row: u16,
     pub column: u16,
+    pub sample: u16,
 }
 
 #[derive(Clone, Copy, Debug, PartialEq)]
@@ -117,7 +119,13 @@ macro_rules! call {
 fn accepted(packed: u64) -> Result<u64, Refusal> {
     match packed as u8 {
         0 => Ok(packed),
-        number => Err(Refusal { number, plane: (packed >> 8) as u8, row: (packed >> 16) as u16, column: (packed >> 32) as u16 }),
+        number => Err(Refusal {
+            number,
+            plane: (packed >> 8) as u8,
+            row: (packed >> 16) as u16,
+            column: (packed >> 32) as u16,
+            sample: (packed >> 48) as u16,
+        }),
     }
 }
 

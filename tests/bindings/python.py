@@ -15,17 +15,17 @@ def planes(*three):
 
 
 class Answers(unittest.TestCase):
-    def refused(self, number, plane, call, *words):
+    def refused(self, number, plane, sample, call, *words):
         with self.assertRaises(cork.Refusal) as caught:
             call(*words)
         r = caught.exception
-        self.assertEqual((r.number, r.plane, r.row, r.column), (number, plane, 0, 0))
+        self.assertEqual((r.number, r.plane, r.row, r.column, r.sample), (number, plane, 0, 0, sample))
 
     def test_pixels(self):
         self.assertEqual(cork.forward_pixel(LOSSLESS, (255, 0, 0)), (63, 129, 511))
         self.assertEqual(cork.reverse_pixel(LOSSLESS, (63, 129, 511)), (255, 0, 0))
-        self.refused(2, 0, cork.forward_pixel, LOSSLESS._replace(matrix=2), (0, 0, 0))
-        self.refused(10, 2, cork.forward_pixel, LOSSLESS, (0, 0, 256))
+        self.refused(2, 0, 0, cork.forward_pixel, LOSSLESS._replace(matrix=2), (0, 0, 0))
+        self.refused(10, 2, 300, cork.forward_pixel, LOSSLESS, (0, 0, 300))
 
     def test_refusals_are_copied_and_pickled(self):
         """Also what a caller noted on the exception goes along."""
@@ -33,7 +33,7 @@ class Answers(unittest.TestCase):
         with self.assertRaises(cork.Refusal) as caught:
             cork.forward_frame(LOSSLESS, 1, 3, source, cork.Output([3, 3, 3], 1))
         r = caught.exception
-        self.assertEqual((r.number, r.plane, r.row, r.column), (10, 2, 2, 0))
+        self.assertEqual((r.number, r.plane, r.row, r.column, r.sample), (10, 2, 2, 0, 300))
         r.picture = "beach"
         pickled = [pickle.loads(pickle.dumps(r, protocol)) for protocol in range(pickle.HIGHEST_PROTOCOL + 1)]
         for again in pickled + [copy.copy(r), copy.deepcopy(r)]:
@@ -47,20 +47,20 @@ class Answers(unittest.TestCase):
         again = cork.Output([2, 3, 2], 2)
         cork.reverse_frame(LOSSLESS, 2, 1, cork.Source(output.planes, 4), again)
         self.assertEqual(again.planes, planes([255, 0], [0, 255, 0], [0, 0]))
-        self.refused(9, 0, cork.forward_frame, LOSSLESS, 1, 1, cork.Source(planes([], [], []), 1), output)
+        self.refused(9, 0, 0, cork.forward_frame, LOSSLESS, 1, 1, cork.Source(planes([], [], []), 1), output)
         self.assertEqual(output.planes, planes([0] * 4, [0] * 4, [0] * 4))
 
     def test_image_checks(self):
         yes = cork.Source(planes([63], [129], [511]), 1)
         self.assertIsNone(cork.image_check(LOSSLESS, 1, 1, yes))
         self.assertEqual(cork.image_check(LOSSLESS, 2, 1, cork.Source(planes([63, 0], [129, 256], [511, 511]), 2)), (0, 1))
-        self.refused(11, 0, cork.image_check, NARROW, 1, 1, yes)
-        self.refused(8, 0, cork.image_check, LOSSLESS, 2**64 - 1, 1, yes)
+        self.refused(11, 0, 0, cork.image_check, NARROW, 1, 1, yes)
+        self.refused(8, 0, 0, cork.image_check, LOSSLESS, 2**64 - 1, 1, yes)
 
     def test_meters(self):
         self.assertEqual(cork.meter_y(NARROW, 235), 1.0)
         self.assertEqual(cork.meter_cb(NARROW, 240), 0.5)
-        self.refused(10, 2, cork.meter_cr, NARROW, 256)
+        self.refused(10, 2, 256, cork.meter_cr, NARROW, 256)
         self.assertEqual(cork.meter_pixel(NARROW, (235, 240, 16)), (1.0, 0.5, -0.5))
 
     def test_labels_and_texts(self):

@@ -8,7 +8,7 @@ const LOSSLESS: Setting =
 const NARROW: Setting = Setting { matrix: 1, c_depth: 8, rgb_full: false, ycc_full: false, ..LOSSLESS };
 
 fn refused(number: u8) -> Refusal {
-    Refusal { number, plane: 0, row: 0, column: 0 }
+    Refusal { number, plane: 0, row: 0, column: 0, sample: 0 }
 }
 
 #[test]
@@ -16,7 +16,7 @@ fn pixels() {
     assert_eq!(forward_pixel(&LOSSLESS, [255, 0, 0]), Ok([63, 129, 511]));
     assert_eq!(reverse_pixel(&LOSSLESS, [63, 129, 511]), Ok([255, 0, 0]));
     assert_eq!(forward_pixel(&Setting { matrix: 2, ..LOSSLESS }, [0, 0, 0]), Err(refused(2)));
-    assert_eq!(forward_pixel(&LOSSLESS, [0, 0, 256]), Err(Refusal { plane: 2, ..refused(10) }));
+    assert_eq!(forward_pixel(&LOSSLESS, [0, 0, 300]), Err(Refusal { plane: 2, sample: 300, ..refused(10) }));
 }
 
 /// The frame that the rules print, both ways, with old contents in the output and noise in the padding.
@@ -58,7 +58,7 @@ fn image_checks() {
 fn meters() {
     assert_eq!(meter_y(&NARROW, 235), Ok(1.0));
     assert_eq!(meter_cb(&NARROW, 240), Ok(0.5));
-    assert_eq!(meter_cr(&NARROW, 256), Err(Refusal { plane: 2, ..refused(10) }));
+    assert_eq!(meter_cr(&NARROW, 256), Err(Refusal { plane: 2, sample: 256, ..refused(10) }));
     assert_eq!(meter_pixel(&NARROW, [235, 240, 16]), Ok(Levels { y: 1.0, cb: 0.5, cr: -0.5 }));
     assert_eq!(meter_pixel(&LOSSLESS, [0, 0, 0]), Err(refused(11)));
 }

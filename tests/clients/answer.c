@@ -8,7 +8,7 @@ static void print_refusal(cork_answer a)
 {
     printf("refused %d", (int)cork_refusal_of(a));
     if (cork_refusal_of(a) == CORK_SAMPLE_TOO_LARGE)
-        printf(" plane %u row %u column %u", cork_plane(a), cork_row(a), cork_column(a));
+        printf(" plane %u row %u column %u sample %u", cork_plane(a), cork_row(a), cork_column(a), cork_bad_sample(a));
     printf("\n");
 }
 

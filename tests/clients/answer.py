@@ -36,8 +36,8 @@ def bits(level):
 
 
 def refused(r):
-    place = " plane %d row %d column %d" % (r.plane, r.row, r.column) if r.number == 10 else ""
-    return "refused %d%s" % (r.number, place)
+    found = " plane %d row %d column %d sample %d" % (r.plane, r.row, r.column, r.sample) if r.number == 10 else ""
+    return "refused %d%s" % (r.number, found)
 
 
 def samples(call):

@@ -43,7 +43,7 @@ impl Words<'_> {
 
 fn refused(r: Refusal) -> String {
     if r.number == 10 {
-        return format!("refused 10 plane {} row {} column {}", r.plane, r.row, r.column);
+        return format!("refused 10 plane {} row {} column {} sample {}", r.plane, r.row, r.column, r.sample);
     }
     format!("refused {}", r.number)
 }

@@ -51,11 +51,12 @@ static void check_frames(size_t width)
         must(is_zero(k, length - 1), "a refused call left something behind");
         must(planes[k][length - 1] == 0xa5a5, "a refused call wrote past the plane's end");
     }
-    sources[2][length - 1] = 256;
+    sources[2][length - 1] = 300;
     cork_answer a = convert(width, 0);
     sources[2][length - 1] = 255;
     must(cork_refusal_of(a) == CORK_SAMPLE_TOO_LARGE && cork_plane(a) == 2, "a sample too large in the last corner is missed");
     must(cork_row(a) == SIDE - 1 && cork_column(a) == width - 1, "its place is wrong");
+    must(cork_bad_sample(a) == 300, "its number is wrong");
 }
 
 /* On the black and white picture just made: its source is there, and is gone once the last corner's Cb is changed. */

@@ -24,29 +24,30 @@ use Rattle.setting.specs.declared.Setting.{Setting}
 use Rattle.setting.specs.declared.admission.Admission.the-variants as admission
 use Rattle.setting.specs.declared.admission.Served.{Served}
 use Rattle.setting.proofs.ReadyLaws.{ready}
-use Rattle.scan.specs.First.{NotAbove, badRule}
+use Rattle.scan.specs.First.{NotAbove, badSample, sampleOn, badRule}
 use Rattle.planes.specs.Picture.{Picture, layoutOf, EveryPixel}
 use Rattle.planes.specs.Sizes.{sizeRules, EveryLayout, Fits}
-use Rattle.scan.specs.declared.Found.{Found}
-use Rattle.scan.specs.declared.Found.the-variants.{At, Nothing}
+use Rattle.scan.specs.declared.Bad.{Bad}
+use Rattle.scan.specs.declared.Bad.the-variants.{At, Nothing}
 use Rattle.planes.specs.declared.size.Layout.{Layout}
+use Rattle.scan.proofs.Searches.{none-with}
 use Rattle.scan.proofs.SearchTheorems.{nothing-in-pixels-means}
 use Rattle.planes.proofs.SizeTheorems.{fits}
 use Rattle.admit.specs.Rules.{callAdmission, sizedAdmission, beyondDepth, pixelPicture, pixelAdmission, sampleAdmission}
 use Rattle.admit.proofs.AdmitLaws.{admitted-passed, in-turn, by-sample}
 
 -- no rule applies
-pub record Accepted (call : Call) (s : Setting) (sizes : List Rule) (bad : Found) : Type 0 where
+pub record Accepted (call : Call) (s : Setting) (sizes : List Rule) (bad : Bad) : Type 0 where
   pub setting : first (settingRules call s) ≡ Passed
   pub sizes-pass : first sizes ≡ Passed
   pub samples : bad ≡ Nothing
 
-none-bad : (f : Found) → first (badRule f ∷ []) ≡ Passed → f ≡ Nothing
+none-bad : (f : Bad) → first (badRule f ∷ []) ≡ Passed → f ≡ Nothing
 unfolding first
-none-bad (At place) e = absurd (true≢false cc)
+none-bad (At place v) e = absurd (true≢false cc)
 none-bad Nothing e = cc
 
-module _ (call : Call) (s : Setting) (sizes : List Rule) (bad : Found) where
+module _ (call : Call) (s : Setting) (sizes : List Rule) (bad : Bad) where
   pub accepted-of : (x : Served) → callAdmission call s sizes bad ≡ admission.Admitted x → Accepted call s sizes bad × (served s ≡ x)
   unfolding callAdmission
   accepted-of x e =
@@ -73,7 +74,7 @@ module _ (call : Call) (s : Setting) (sizes : List Rule) (x : Served) (e : sized
   pub sized-ready : Ready x
   sized-ready = subst Ready is-served (ready call s (sized .0))
 
-  pub then-samples : (bad : Found) → admitted (first (badRule bad ∷ [])) x ≡ callAdmission call s sizes bad
+  pub then-samples : (bad : Bad) → admitted (first (badRule bad ∷ [])) x ≡ callAdmission call s sizes bad
   then-samples bad = sym (ap (admitted (first (badRule bad ∷ []))) is-served) ∙ by-sample call s sizes bad (sized .0) (sized .1)
 
 -- a sample is not above the largest of its depth exactly if it is below 2^depth
@@ -94,7 +95,8 @@ inside-of Ycc d p = not-above (d .luma .0) (d .chroma .0) (d .chroma .0) p
 pub inside-exactly : (side : Side) (d : Depths) (a : Picture) → (beyondDepth side d a ≡ Nothing) ↔ EveryPixel (InsideOf side d) a
 inside-exactly side d a =
     let t = nothing-in-pixels-means a (tops side d) in
-    (λ e j i p q. inside-of side d _ .0 (t .0 e j i p q), λ h. t .1 (λ j i p q. inside-of side d _ .1 (h j i p q)))
+    let n = none-with (sampleOn a) (badSample a (tops side d)) in
+    (λ e j i p q. inside-of side d _ .0 (t .0 (n .0 e) j i p q), λ h. n .1 (t .1 (λ j i p q. inside-of side d _ .1 (h j i p q))))
 
 -- of a call on a picture
 module _ (call : Call) (s : Setting) (a : Picture) (others : List Layout) where

@@ -2,6 +2,7 @@
 use mathlib.Core.Path.{_≡_, refl, sym, ap, _∙_, subst}
 use mathlib.Core.Bool.{true≢false}
 use mathlib.Core.List.{List, [], _∷_, _++_}
+use Prim.Native.Nat.{ℕ}
 use Rattle.refusal.specs.Rules.{Rule, first, orElse, badAt}
 use Rattle.refusal.specs.declared.Check.{Check}
 use Rattle.refusal.specs.declared.Check.the-variants as check
@@ -18,8 +19,8 @@ use Rattle.setting.specs.declared.admission.Served.{Served}
 use Rattle.setting.proofs.ReadyLaws.{ready}
 use Rattle.scan.specs.First.{badRule}
 use Rattle.planes.specs.Picture.{Picture, layoutOf}
-use Rattle.scan.specs.declared.Found.{Found}
-use Rattle.scan.specs.declared.Found.the-variants.{At, Nothing}
+use Rattle.scan.specs.declared.Bad.{Bad}
+use Rattle.scan.specs.declared.Bad.the-variants.{At, Nothing}
 use Rattle.planes.proofs.SizeTheorems.{twice}
 use Rattle.admit.specs.Rules.{callRules, callAdmission, pictureAdmission}
 
@@ -33,7 +34,7 @@ refused-by check.Passed x r e = absurd (true≢false cc)
 refused-by (check.Refused q) x r e = cc
 
 -- the three parts of a call's rules
-pub in-turn : (call : Call) (s : Setting) (sizes : List Rule) (bad : Found)
+pub in-turn : (call : Call) (s : Setting) (sizes : List Rule) (bad : Bad)
     → first (callRules call s sizes bad) ≡ orElse (first (settingRules call s)) (orElse (first sizes) (first (badRule bad ∷ [])))
 in-turn call s sizes bad =
     first-append (settingRules call s) (sizes ++ (badRule bad ∷ []))
@@ -53,7 +54,7 @@ module _ (call : Call) (s : Setting) where
   pub served-ready : (a : Admission) (x : Served) → a ≡ settingAdmission call s → a ≡ admission.Admitted x → Ready x
   served-ready a x e f = let t = served-setting a x e f in rw (← t .1) (ready call s (t .0))
 
-  module _ (sizes : List Rule) (bad : Found) where
+  module _ (sizes : List Rule) (bad : Bad) where
     -- the answer by what each of the three parts comes to
     abbrev answer : Check → Check → Admission
     answer a b = admitted (orElse a (orElse b (first (badRule bad ∷ [])))) (served s)
@@ -73,7 +74,7 @@ module _ (call : Call) (s : Setting) where
     by-sample e f = (λ i. answer (sym e i) (sym f i)) ∙ by-parts
 
     -- the code's own answer, of the setting as it was checked and of what was found
-    pub past-setting : (a b : Admission) (x : Served) (f : Found) → a ≡ settingAdmission call s → a ≡ admission.Admitted x → first sizes ≡ check.Passed
+    pub past-setting : (a b : Admission) (x : Served) (f : Bad) → a ≡ settingAdmission call s → a ≡ admission.Admitted x → first sizes ≡ check.Passed
         → f ≡ bad → b ≡ admitted (first (badRule f ∷ [])) x → b ≡ callAdmission call s sizes bad
     past-setting a b x f e g h q r =
         let t = served-setting a x e g in
@@ -89,7 +90,7 @@ module _ (call : Call) (s : Setting) where
   refused-before check.Passed (check.Refused q) c x r e = e
   refused-before check.Passed check.Passed c x r e = absurd (true≢false cc)
 
-  pub still-refused : (sizes : List Rule) (bad : Found) (r : Refusal) → callAdmission call s sizes Nothing ≡ admission.Refused r
+  pub still-refused : (sizes : List Rule) (bad : Bad) (r : Refusal) → callAdmission call s sizes Nothing ≡ admission.Refused r
       → callAdmission call s sizes bad ≡ admission.Refused r
   unfolding first
   still-refused sizes bad r e =
@@ -97,7 +98,7 @@ module _ (call : Call) (s : Setting) where
       ∙ refused-before (first (settingRules call s)) (first sizes) (first (badRule bad ∷ [])) (served s) r (by-parts sizes Nothing ∙ e)
 
   -- of the rules on sizes only what they come to counts
-  pub same-sizes : (a b : List Rule) (bad : Found) → first a ≡ first b → callAdmission call s a bad ≡ callAdmission call s b bad
+  pub same-sizes : (a b : List Rule) (bad : Bad) → first a ≡ first b → callAdmission call s a bad ≡ callAdmission call s b bad
   same-sizes a b bad e = sym (by-parts a bad) ∙ ap (answer a bad (first (settingRules call s))) e ∙ by-parts b bad
 
 -- a call that names its own layout again
@@ -105,15 +106,15 @@ pub own-again : (call : Call) (s : Setting) (a : Picture) → pictureAdmission c
 own-again call s a = same-sizes call s _ _ _ (twice (a .width) (a .height) (layoutOf a))
 
 -- what holds of every answer of a call: of each refusal by its setting, by its sizes and by a bad sample, and of what is served
-module _ (Q : Admission → Type 0) (call : Call) (s : Setting) (sizes : List Rule) (bad : Found)
+module _ (Q : Admission → Type 0) (call : Call) (s : Setting) (sizes : List Rule) (bad : Bad)
     (of-setting : (r : Refusal) → first (settingRules call s) ≡ check.Refused r → Q (admission.Refused r))
     (of-sizes : (r : Refusal) → first sizes ≡ check.Refused r → Q (admission.Refused r))
-    (of-sample : first sizes ≡ check.Passed → (place : Place) → bad ≡ At place → Q (admission.Refused (badAt place)))
+    (of-sample : first sizes ≡ check.Passed → (place : Place) (v : ℕ) → bad ≡ At place v → Q (admission.Refused (badAt place v)))
     (of-served : Q (admission.Admitted (served s)))
   where
-    by-found : first sizes ≡ check.Passed → (f : Found) → bad ≡ f → Q (admitted (first (badRule f ∷ [])) (served s))
+    by-found : first sizes ≡ check.Passed → (f : Bad) → bad ≡ f → Q (admitted (first (badRule f ∷ [])) (served s))
     unfolding first
-    by-found h (At place) e = of-sample h place e
+    by-found h (At place v) e = of-sample h place v e
     by-found h Nothing e = of-served
 
     past-sizes : first (settingRules call s) ≡ check.Passed → (k : Check) → first sizes ≡ k → Q (callAdmission call s sizes bad)

@@ -16,18 +16,18 @@ use Rattle.setting.specs.declared.Call.{Call}
 use Rattle.setting.specs.declared.Call.the-variants as call
 use Rattle.setting.specs.declared.Setting.{Setting}
 use Rattle.setting.specs.declared.admission.Admission.{Admission}
-use Rattle.scan.specs.First.{firstBad, badSample, badRule}
+use Rattle.scan.specs.First.{firstBad, badFound, withSample, badRule}
 use Rattle.planes.specs.Picture.{Picture, picture, layoutOf}
 use Rattle.planes.specs.Sizes.{sizeRules}
-use Rattle.scan.specs.declared.Found.{Found}
-use Rattle.scan.specs.declared.Found.the-variants.{Nothing}
+use Rattle.scan.specs.declared.Bad.{Bad}
+use Rattle.scan.specs.declared.Bad.the-variants.{Nothing}
 use Rattle.planes.specs.declared.size.Layout.{Layout}
 
 -- a call with some rules on sizes, whose first bad sample is looked for
-abbrev pub callRules : Call → Setting → List Rule → Found → List Rule
+abbrev pub callRules : Call → Setting → List Rule → Bad → List Rule
 callRules call s sizes bad = settingRules call s ++ (sizes ++ (badRule bad ∷ []))
 
-unfoldable pub callAdmission : Call → Setting → List Rule → Found → Admission
+unfoldable pub callAdmission : Call → Setting → List Rule → Bad → Admission
 callAdmission call s sizes bad = admitted (first (callRules call s sizes bad)) (served s)
 
 -- a call whose samples are not looked at yet: its setting and its sizes alone
@@ -35,8 +35,8 @@ abbrev pub sizedAdmission : Call → Setting → List Rule → Admission
 sizedAdmission call s sizes = callAdmission call s sizes Nothing
 
 -- the first bad sample of a picture of one side
-abbrev pub beyondDepth : Side → Depths → Picture → Found
-beyondDepth side d a = badSample a (tops side d)
+abbrev pub beyondDepth : Side → Depths → Picture → Bad
+beyondDepth side d a = badFound a (tops side d)
 
 -- a call on a picture, with the layouts of the planes that it writes
 abbrev pub pictureRules : Call → Setting → Picture → List Layout → List Rule
@@ -63,8 +63,8 @@ topOf kind.Y d = M (d .luma .0)
 topOf kind.Cb d = M (d .chroma .0)
 topOf kind.Cr d = M (d .chroma .0)
 
-abbrev pub badOne : SampleKind → Depths → ℕ → Found
-badOne k d v = firstBad (v ∷ []) (planeNumber k) 1 1 1 (topOf k d)
+abbrev pub badOne : SampleKind → Depths → ℕ → Bad
+badOne k d v = withSample (λ place. v) (firstBad (v ∷ []) (planeNumber k) 1 1 1 (topOf k d))
 
 abbrev pub sampleRules : SampleKind → Setting → ℕ → List Rule
 sampleRules k s v = callRules call.Meter s [] (badOne k (depths s) v)

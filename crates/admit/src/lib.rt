@@ -16,6 +16,7 @@ use refusal::Refusal;
 use sample::Depths;
 use sample::Pixel;
 use sample::Side;
+use scan::Bad;
 use scan::Found;
 use setting::Call;
 use setting::Setting;
@@ -23,24 +24,24 @@ use setting::admission::Admission;
 use setting::admission::Served;
 
 // Rule 10, by what was found.
-fn past(served: Served, found: Found) -> Admission
-    ensures { λ r. ⌜ r ≡ admitted (first (badRule found ∷ [])) served ⌝ }
+fn past(served: Served, bad: Bad) -> Admission
+    ensures { λ r. ⌜ r ≡ admitted (first (badRule bad ∷ [])) served ⌝ }
 {
-    match found {
-        Found::At(place) => Admission::Refused(Refusal::bad_at(place)),
-        Found::Nothing => Admission::Admitted(served),
+    match bad {
+        Bad::At(place, sample) => Admission::Refused(Refusal::bad_at(place, sample)),
+        Bad::Nothing => Admission::Admitted(served),
     }
 }
 
 // A pixel is a picture of one row and one column.
-fn bad_pixel(side: Side, d: Depths, p: Pixel) -> Found
+fn bad_pixel(side: Side, d: Depths, p: Pixel) -> Bad
     requires { ⌜ ThreeDepths d ⌝ }
     ensures { λ r. ⌜ r ≡ beyondDepth side d (pixelPicture p) ⌝ }
 {
     let a = [p.p0];
     let b = [p.p1];
     let c = [p.p2];
-    scan::first_bad_of_three(&a, &b, &c, 1, 1, 1, d.tops(side))
+    scan::bad_of_three(&a, &b, &c, 1, 1, 1, d.tops(side))
 }
 
 // A call that is handed a whole pixel.
@@ -67,14 +68,17 @@ fn top_of(kind: SampleKind, d: Depths) -> u16
     }
 }
 
-fn bad_one(kind: SampleKind, d: Depths, v: u16) -> Found
+fn bad_one(kind: SampleKind, d: Depths, v: u16) -> Bad
     requires { ⌜ ThreeDepths d ⌝ }
     ensures { λ r. ⌜ r ≡ badOne kind d v ⌝ }
 {
     let top = top_of(kind, d);
     let plane = meter::plane_of(kind);
     let a = [v];
-    scan::first_bad(&a, plane, 1, 1, 1, top)
+    match scan::first_bad(&a, plane, 1, 1, 1, top) {
+        Found::At(place) => Bad::At(place, v),
+        Found::Nothing => Bad::Nothing,
+    }
 }
 
 // The meter on one sample, which alone is tested.
@@ -108,7 +112,7 @@ pub fn admit_sizes(
     if let Check::Refused(refusal) = sizes {
         return Admission::Refused(refusal);
     }
-    past(served, Found::Nothing)
+    past(served, Bad::Nothing)
 }
 
 // A call on a picture, whole.
@@ -139,6 +143,6 @@ pub fn admit_picture(
     let tops = depths.tops(setting::reads(call));
     past(
         served,
-        scan::first_bad_of_three(a0, a1, a2, width, height, stride, tops),
+        scan::bad_of_three(a0, a1, a2, width, height, stride, tops),
     )
 }

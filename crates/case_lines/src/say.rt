@@ -27,6 +27,7 @@ pub fn bad_line() {
 fn refusal(r: Refusal) {
     let n = r.number;
     let place = r.place;
+    let sample = r.sample;
     words(b"refused ");
     number(n as u64);
     if n == Refusal::SAMPLE_BEYOND_DEPTH {
@@ -36,6 +37,8 @@ fn refusal(r: Refusal) {
         number(place.row as u64);
         words(b" column ");
         number(place.column as u64);
+        words(b" sample ");
+        number(sample as u64);
     }
     words(b"\n");
 }

@@ -1,4 +1,5 @@
 // The box at the counter. It reads its words, asks the box, and says the answer in words with its numbers.
+mod beyond;
 mod output;
 mod saying;
 mod wording;
@@ -26,7 +27,7 @@ const RANGES: [u8; 11] = *b"narrow full";
 
 fn asked(words: &[u8], a: Asked) {
     match a {
-        Asked::For(request) => saying::answer(request::ask::ask(request)),
+        Asked::For(request) => saying::answer(request, request::ask::ask(request)),
         Asked::Fault { word, expected } => saying::fault(words, word, expected),
     }
 }

@@ -3,11 +3,13 @@ ghost use mathlib.Core.Path.{_≡_};
 ghost use lib.IntN.{pos};
 ghost use Rattle.cork.specs.Millionths.{millionths};
 use crate::GAP;
+use crate::beyond;
 use crate::output::hex;
 use crate::output::number;
 use crate::output::say;
 use crate::wording;
 use refusal::Refusal;
+use request::Request;
 use request::ask::Answer;
 use request::form::Expected;
 use sample::Pixel;
@@ -36,20 +38,15 @@ pub fn fault(words: &[u8], word: u8, expected: Expected) {
     say(b"\n");
 }
 
-fn refused(r: Refusal) {
+fn refused(request: Request, r: Refusal) {
     let n = r.number;
-    let place = r.place;
     say(b"refused ");
     number(n as u64);
     say(b": ");
-    wording::meaning(n);
     if n == Refusal::SAMPLE_BEYOND_DEPTH {
-        say(b": plane ");
-        number(place.plane as u64);
-        say(b", row ");
-        number(place.row as u64);
-        say(b", column ");
-        number(place.column as u64);
+        beyond::sample(request, r);
+    } else {
+        wording::meaning(n);
     }
     say(b"\n");
 }
@@ -132,7 +129,8 @@ fn source(found: bool) {
     say(b"none: no RGB pixel within depth converts to this one\n");
 }
 
-pub fn answer(a: Answer) {
+// The answer to a request, which tells what a refused sample was measured by.
+pub fn answer(request: Request, a: Answer) {
     match a {
         Answer::Samples(way, p) => converted(way, p),
         Answer::Source(found) => source(found),
@@ -143,6 +141,6 @@ pub fn answer(a: Answer) {
             level(b"Cr", cr);
         }
         Answer::Label(l) => label(l),
-        Answer::Refused(r) => refused(r),
+        Answer::Refused(r) => refused(request, r),
     }
 }

@@ -1,4 +1,4 @@
--- What each case of an answer says in the rules' own terms: 0 or the refusal's number, a place, and what else there is. The same of the
+-- What each case of an answer says in the rules' own terms: 0 or the refusal's number, a place, a bad sample, and what else there is. The same of the
 -- number that a caller from another language is given, so that what is promised is said once for both.
 use mathlib.Core.Bool.{Bool, true, false, cond}
 use mathlib.Core.List.{List, [], _∷_}
@@ -22,26 +22,28 @@ use Rattle.corkplover.specs.declared.meters.Reading.the-variants as mete
 use Rattle.corkplover.specs.declared.meters.LevelsAnswer.{LevelsAnswer}
 use Rattle.corkplover.specs.declared.meters.LevelsAnswer.the-variants as levels
 
--- the place of a 10 or of a pixel without a source, samples, levels, and the word of a source check: true for yes
+-- the place of a 10 or of a pixel without a source, the bad sample of a 10, converted samples, levels, and the word of a source check: true
+-- for yes
 pub record Meaning : Type 0 where
   pub number : ℕ
   pub place : Place
+  pub bad : ℕ
   pub samples : List ℕ
   pub levels : List Float
   pub source : List Bool
 
 abbrev pub meaningRefusal : Refusal → Meaning
-meaningRefusal r = record { number = r .number; place = r .place; samples = []; levels = []; source = [] }
+meaningRefusal r = record { number = r .number; place = r .place; bad = r .sample; samples = []; levels = []; source = [] }
 
 -- of what was not refused
 abbrev pub meaningSamples : List ℕ → Meaning
-meaningSamples l = record { number = 0; place = nowhere; samples = l; levels = []; source = [] }
+meaningSamples l = record { number = 0; place = nowhere; bad = 0; samples = l; levels = []; source = [] }
 
 abbrev pub meaningLevels : List Float → Meaning
-meaningLevels l = record { number = 0; place = nowhere; samples = []; levels = l; source = [] }
+meaningLevels l = record { number = 0; place = nowhere; bad = 0; samples = []; levels = l; source = [] }
 
 abbrev pub meaningSource : Bool → Place → Meaning
-meaningSource word place = record { number = 0; place = place; samples = []; levels = []; source = word ∷ [] }
+meaningSource word place = record { number = 0; place = place; bad = 0; samples = []; levels = []; source = word ∷ [] }
 
 abbrev pub meaningOfPixel : PixelAnswer → Meaning
 meaningOfPixel (pixel.Converted p) = meaningSamples (p .p0 ∷ p .p1 ∷ p .p2 ∷ [])
@@ -76,7 +78,7 @@ meaningOfImage (image.Refused r) = meaningRefusal r
 -- ---- the numbers that callers from other languages see, and what they find behind their pointers
 
 abbrev pub refusalIn : ℕ → Refusal
-refusalIn x = record { number = numberIn x; place = at (secondIn x) (firstIn x) (middleIn x) }
+refusalIn x = record { number = numberIn x; place = at (secondIn x) (firstIn x) (middleIn x); sample = lastIn x }
 
 -- a refusal, or else what is given
 abbrev pub meaningUnless : ℕ → Meaning → Meaning

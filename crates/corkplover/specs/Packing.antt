@@ -1,6 +1,6 @@
 -- Answers and settings as one number each, for callers in other languages. In an answer bits 0 to 7 are 0 or the refusal's number; a 10
--- has its plane from bit 8, its row from bit 16 and its column from bit 32; an accepted pixel has its samples from bits 16, 32 and 48. All
--- other bits are 0.
+-- has its plane from bit 8, its row from bit 16, its column from bit 32 and its sample from bit 48; an accepted pixel has its samples from
+-- bits 16, 32 and 48. All other bits are 0.
 use mathlib.Core.Bool.{Bool, true, false}
 use Prim.Native.Nat.{ℕ, _+_, _*_, _/_, _%_}
 use lib.Dec.{eqb}
@@ -39,11 +39,12 @@ firstIn x = x / 65536 % 65536
 abbrev pub middleIn : ℕ → ℕ
 middleIn x = x / 4294967296 % 65536
 
+-- nothing stands above the last: a word has 64 bits
 abbrev pub lastIn : ℕ → ℕ
-lastIn x = x / 281474976710656 % 65536
+lastIn x = x / 281474976710656
 
 abbrev pub packedRefusal : Refusal → ℕ
-packedRefusal r = packed (r .number) (r .place .plane) (r .place .row) (r .place .column) 0
+packedRefusal r = packed (r .number) (r .place .plane) (r .place .row) (r .place .column) (r .sample)
 
 abbrev pub packedPixel : PixelAnswer → ℕ
 packedPixel (pixel.Converted p) = packed 0 0 (p .p0) (p .p1) (p .p2)

@@ -30,7 +30,8 @@ fn pack_refusal(refusal: Refusal) -> u64
 {
     let number = refusal.number;
     let place = refusal.place;
-    pack(number, place.plane, place.row, place.column, 0)
+    let sample = refusal.sample;
+    pack(number, place.plane, place.row, place.column, sample)
 }
 
 pub fn pack_pixel(answer: PixelAnswer) -> u64

@@ -14,9 +14,9 @@ pub record Fields (number second a b c x : ℕ) : Type 0 where
   pub middle-out : middleIn x ≡ b
   pub last-out : lastIn x ≡ c
 
-pub fields : (number second a b c : ℕ) → number < 256 → second < 256 → a < 65536 → b < 65536 → c < 65536
+pub fields : (number second a b c : ℕ) → number < 256 → second < 256 → a < 65536 → b < 65536
     → Fields number second a b c (packed number second a b c)
-fields number second a b c h k l m n = omega arith
+fields number second a b c h k l m = omega arith
 
 -- the numbers of a word that holds a setting
 record SettingFields (p t m r y c f g word : ℕ) : Type 0 where

@@ -1,6 +1,7 @@
 -- That the promises are kept. First of the answers by their definitions, then of every entry point and export by its contract, and last
 -- wrong boxes that no contract allows.
 pub mod Once
+pub mod Beyond
 pub mod Refusing
 pub mod Pixels
 pub mod Frames

@@ -21,7 +21,9 @@ use Rattle.setting.specs.declared.Setting.{Setting}
 use Rattle.setting.specs.declared.Way.{Way}
 use Rattle.setting.specs.declared.admission.Admission.the-variants as admission
 use Rattle.setting.proofs.ReadyLaws.{ready, is-kept}
-use Rattle.scan.specs.declared.Found.the-variants as found
+use Rattle.scan.specs.declared.Bad.the-variants.{Nothing}
+use Rattle.scan.specs.First.{firstBad}
+use Rattle.scan.proofs.Searches.{none-with}
 use Rattle.scan.proofs.SearchTheorems.{nothing-means}
 use Rattle.meter.specs.Level.{planeNumber, levelOf, levelsOf}
 use Rattle.meter.specs.declared.SampleKind.{SampleKind}
@@ -54,7 +56,7 @@ unfolding first
 pixel-free c s p e h =
     accepted-none c s [] (beyondDepth (reads c) (depths s) (pixelPicture p)) (record { setting = e; sizes-pass = refl; samples = no-bad })
   where
-    no-bad : beyondDepth (reads c) (depths s) (pixelPicture p) ≡ found.Nothing
+    no-bad : beyondDepth (reads c) (depths s) (pixelPicture p) ≡ Nothing
     no-bad =
         inside-exactly (reads c) (depths s) (pixelPicture p) .1
         (λ j i a b.
@@ -137,7 +139,8 @@ sample-reads k s v =
       reads = λ e.
           let h = r .exactly .accepted e in
           let a = none-accepted call.Meter s [] (badOne k (depths s) v) h in
-          let within = nothing-means (v ∷ []) (planeNumber k) 1 1 1 (topOf k (depths s)) .0 (a .samples) 0 0 (omega arith) (omega arith) in
+          let none = none-with (λ place. v) (firstBad (v ∷ []) (planeNumber k) 1 1 1 (topOf k (depths s))) .0 (a .samples) in
+          let within = nothing-means (v ∷ []) (planeNumber k) 1 1 1 (topOf k (depths s)) .0 none 0 0 (omega arith) (omega arith) in
           ap (λ d. meaningOfReading (readBy k v d) .levels) (none-admitted call.Meter s [] (badOne k (depths s) v) h)
           ∙ ap (λ l. l ∷ []) (level-is s (a .setting) k v within);
     }

@@ -8,7 +8,7 @@ use Rattle.planes.specs.Picture.{Picture, picture, pixelOf, sampleOf}
 use Rattle.planes.specs.declared.size.Layout.{Layout}
 use Rattle.planes.proofs.PlaneTheorems.{plane-same, pixel-same}
 use Rattle.scan.proofs.Searches.{first-place-same}
-use Rattle.scan.proofs.SearchTheorems.{bad-sample-same}
+use Rattle.scan.proofs.SearchTheorems.{bad-found-same}
 use Rattle.setting.specs.declared.Call.{Call}
 use Rattle.setting.specs.declared.Call.the-variants as call
 use Rattle.setting.specs.declared.Setting.{Setting}
@@ -39,7 +39,7 @@ module _ (width height stride : ℕ) (a0 a1 a2 q0 q1 q2 : List ℕ) (e : Alike w
 
   same-admission : (c : Call) (s : Setting) (others : List Layout) → pictureAdmission c s a others ≡ pictureAdmission c s q others
   same-admission c s others =
-      rw (e .first .long, e .second .long, e .third .long, bad-sample-same a q0 q1 q2 _ (e .first .same) (e .second .same) (e .third .same))
+      rw (e .first .long, e .second .long, e .third .long, bad-found-same a q0 q1 q2 (e .first .same) (e .second .same) (e .third .same) _)
 
   same-answer : (w : Way) (s : Setting) (b : Layout) → frameAnswer w s a b ≡ frameAnswer w s q b
   unfolding frameAnswer

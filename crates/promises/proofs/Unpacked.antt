@@ -18,10 +18,11 @@ use Rattle.refusal.specs.declared.Refusal.{Refusal}
 use Rattle.refusal.proofs.RuleLaws.{EveryRule, first-has}
 use Rattle.planes.specs.Picture.{Picture, layoutOf}
 use Rattle.planes.specs.Sizes.{sizeRules}
+use Rattle.scan.specs.declared.Bad.{Bad}
+use Rattle.scan.specs.declared.Bad.the-variants as bads
 use Rattle.scan.specs.declared.Found.{Found}
 use Rattle.scan.specs.declared.Found.the-variants as found
 use Rattle.planes.specs.declared.size.Layout.{Layout}
-use Rattle.scan.proofs.SearchTheorems.{at-in-planes-means, at-means}
 use Rattle.scan.proofs.Searches.{first-place-means}
 use Rattle.planes.proofs.SizeTheorems as sizes
 use Rattle.setting.specs.Call.{inputOf}
@@ -40,7 +41,7 @@ use Rattle.meter.specs.declared.SampleKind.the-variants as kind
 use Rattle.plan.specs.Conversion.{convert}
 use Rattle.plan.specs.Source.{hasSource}
 use Rattle.plan.proofs.ConversionTheorems.{forward-inside, reverse-inside}
-use Rattle.admit.specs.Rules.{callAdmission, beyondDepth, pixelPicture, topOf, badOne}
+use Rattle.admit.specs.Rules.{callAdmission, beyondDepth, pixelPicture, badOne}
 use Rattle.admit.proofs.Accepted.{Accepted, accepted-of, inside-exactly}
 use Rattle.admit.proofs.AdmitLaws.{each-answer}
 use Rattle.frame.specs.Frame.{frameBy, frameAnswer}
@@ -50,6 +51,7 @@ use Rattle.corkplover.specs.Meaning.{Meaning, meaningRefusal, meaningSamples, m
 use Rattle.corkplover.specs.Packing.{packedRefusal, packedPixel, packedReading, levelIn, packedLevels, yIn, cbIn, crIn, packedFrame, packedImage}
 use Rattle.corkplover.specs.declared.pixels.PixelAnswer.the-variants.{Converted}
 use Rattle.promises.proofs.Fields.{fields}
+use Rattle.promises.proofs.Beyond.{picture-beyond, sample-beyond}
 use Rattle.promises.proofs.Refusing.{Other, setting-others, size-others}
 
 -- a refusal that the fields have room for, and that is told from none by its number
@@ -78,15 +80,15 @@ free-means false m n e = absurd (true≢false (sym e))
 
 refusal-out : (r : Refusal) (m : Meaning) → Small r → meaningUnless (packedRefusal r) m ≡ meaningRefusal r
 refusal-out r m h =
-    let f = fields (r .number) (r .place .plane) (r .place .row) (r .place .column) 0 (h .number-small) (h .plane-small) (h .row-small) (h .column-small) (omega arith) in
+    let f = fields (r .number) (r .place .plane) (r .place .row) (r .place .column) (r .sample) (h .number-small) (h .plane-small) (h .row-small) (h .column-small) in
     refused-means _ m _ (ap (λ n. eqb n 0) (f .number-out) ∙ h .number-some)
-    ∙ (λ i. meaningRefusal (record { number = f .number-out i; place = at (f .second-out i) (f .first-out i) (f .middle-out i) }))
+    ∙ (λ i. meaningRefusal (record { number = f .number-out i; place = at (f .second-out i) (f .first-out i) (f .middle-out i); sample = f .last-out i }))
 
 -- ---- of any call: what is heard of it, and what it says
 
-module _ (heard say : Admission → Meaning) (c : Call) (s : Setting) (sizes : List Rule) (others : EveryRule Other sizes) (bad : Found)
+module _ (heard say : Admission → Meaning) (c : Call) (s : Setting) (sizes : List Rule) (others : EveryRule Other sizes) (bad : Bad)
     (refused : (r : Refusal) → Small r → heard (admission.Refused r) ≡ say (admission.Refused r))
-    (fit : first sizes ≡ Passed → (place : Place) → bad ≡ found.At place → Small (badAt place))
+    (fit : first sizes ≡ Passed → (place : Place) (v : ℕ) → bad ≡ bads.At place v → Small (badAt place v))
     (served-out : Accepted c s sizes bad → heard (admission.Admitted (served s)) ≡ say (admission.Admitted (served s)))
   where
     abbrev Out : Admission → Type 0
@@ -95,26 +97,27 @@ module _ (heard say : Admission → Meaning) (c : Call) (s : Setting) (sizes : L
     call-out : heard (callAdmission c s sizes bad) ≡ say (callAdmission c s sizes bad)
     call-out =
         each-answer Out c s sizes bad (λ r e f. refused r (other-small r (first-has Other (settingRules c s) r (setting-others c s) e)))
-        (λ r e f. refused r (other-small r (first-has Other sizes r others e))) (λ e place g f. refused (badAt place) (fit e place g)) (λ f. f refl)
+        (λ r e f. refused r (other-small r (first-has Other sizes r others e))) (λ e place v g f. refused (badAt place v) (fit e place v g)) (λ f. f refl)
         (λ e. rw e (served-out (accepted-of c s sizes bad (served s) e .0)))
 
-bad-small : (place : Place) → place .plane < 256 → place .row < 65536 → place .column < 65536 → Small (badAt place)
-bad-small place a b c = record { number-some = refl; number-small = omega arith; plane-small = a; row-small = b; column-small = c }
+bad-small : (place : Place) (v : ℕ) → place .plane < 256 → place .row < 65536 → place .column < 65536 → Small (badAt place v)
+bad-small place v a b c = record { number-some = refl; number-small = omega arith; plane-small = a; row-small = b; column-small = c }
 
 -- ---- calls on a pixel or a sample
 
-bad-pixel : (side : Side) (s : Setting) (p : Pixel) (place : Place) → beyondDepth side (depths s) (pixelPicture p) ≡ found.At place → Small (badAt place)
-bad-pixel side s p place e =
-    let b = at-in-planes-means (pixelPicture p) _ place .0 e in
-    bad-small place (omega (arith, b .plane-inside)) (omega (arith, b .first-there .row-inside)) (omega (arith, b .first-there .column-inside))
+bad-pixel : (side : Side) (s : Setting) (p : Pixel) (place : Place) (v : ℕ) → beyondDepth side (depths s) (pixelPicture p) ≡ bads.At place v
+    → Small (badAt place v)
+bad-pixel side s p place v e =
+    let b = picture-beyond side s (pixelPicture p) place v e .first-bad in
+    bad-small place v (omega (arith, b .plane-inside)) (omega (arith, b .first-there .row-inside)) (omega (arith, b .first-there .column-inside))
 
 -- the samples of an accepted pixel
 below : (d v : ℕ) → Depth d → v < 2 ^ d → v < 65536
 below d v h l = let p = powers d mostDepth (h .least) (h .most) in omega arith
 
-samples-out : (q : Pixel) → q .p0 < 65536 → q .p1 < 65536 → q .p2 < 65536 → meaningInPixel (packedPixel (Converted q)) ≡ meaningOfPixel (Converted q)
-samples-out q h k l =
-    let f = fields 0 0 (q .p0) (q .p1) (q .p2) (omega arith) (omega arith) h k l in
+samples-out : (q : Pixel) → q .p0 < 65536 → q .p1 < 65536 → meaningInPixel (packedPixel (Converted q)) ≡ meaningOfPixel (Converted q)
+samples-out q h k =
+    let f = fields 0 0 (q .p0) (q .p1) (q .p2) (omega arith) (omega arith) h k in
     free-means _ _ _ (ap (λ n. eqb n 0) (f .number-out)) ∙ (λ i. meaningSamples (f .first-out i ∷ f .middle-out i ∷ f .last-out i ∷ []))
 
 pixel-out : (w : Way) (s : Setting) (p : Pixel) → Accepted (call.Convert w) s [] (beyondDepth (inputOf w) (depths s) (pixelPicture p))
@@ -122,11 +125,11 @@ pixel-out : (w : Way) (s : Setting) (p : Pixel) → Accepted (call.Convert w) s 
 pixel-out way.Forward s p a =
     let r = ready (call.Convert way.Forward) s (a .setting) in
     let i = forward-inside (served s) p r (inside-exactly Rgb (depths s) (pixelPicture p) .0 (a .samples) 0 0 (omega arith) (omega arith)) in
-    samples-out _ (below _ _ (r .three .luma) (i .in0)) (below _ _ (r .three .chroma) (i .in1)) (below _ _ (r .three .chroma) (i .in2))
+    samples-out _ (below _ _ (r .three .luma) (i .in0)) (below _ _ (r .three .chroma) (i .in1))
 pixel-out way.Reverse s p a =
     let r = ready (call.Convert way.Reverse) s (a .setting) in
     let i = reverse-inside (served s) p r (inside-exactly Ycc (depths s) (pixelPicture p) .0 (a .samples) 0 0 (omega arith) (omega arith)) in
-    samples-out _ (below _ _ (r .three .rgb) (i .in0)) (below _ _ (r .three .rgb) (i .in1)) (below _ _ (r .three .rgb) (i .in2))
+    samples-out _ (below _ _ (r .three .rgb) (i .in0)) (below _ _ (r .three .rgb) (i .in1))
 
 pub pixel-unpacked : (w : Way) (s : Setting) (p : Pixel) → meaningInPixel (packedPixel (pixelAnswer w s p)) ≡ meaningOfPixel (pixelAnswer w s p)
 unfolding pixelAnswer
@@ -146,10 +149,10 @@ kind-small kind.Y = omega arith
 kind-small kind.Cb = omega arith
 kind-small kind.Cr = omega arith
 
-bad-one : (k : SampleKind) (s : Setting) (v : ℕ) (place : Place) → badOne k (depths s) v ≡ found.At place → Small (badAt place)
-bad-one k s v place e =
-    let b = at-means (v ∷ []) (planeNumber k) 1 1 1 (topOf k (depths s)) place .0 e in
-    bad-small place (omega (arith, kind-small k, b .plane-is)) (omega (arith, b .row-inside)) (omega (arith, b .column-inside))
+bad-one : (k : SampleKind) (s : Setting) (v : ℕ) (place : Place) (w : ℕ) → badOne k (depths s) v ≡ bads.At place w → Small (badAt place w)
+bad-one k s v place w e =
+    let b = sample-beyond k s v place w e .first-bad in
+    bad-small place w (omega (arith, kind-small k, b .plane-is)) (omega (arith, b .row-inside)) (omega (arith, b .column-inside))
 
 pub reading-unpacked : (k : SampleKind) (s : Setting) (v : ℕ)
     → let l = reading k s v in meaningInReading (packedReading l) (levelIn l) ≡ meaningOfReading l
@@ -161,11 +164,11 @@ reading-unpacked k s v =
 -- ---- calls on a picture
 
 bad-in : (side : Side) (s : Setting) (a : Picture) (others : List Layout) → first (sizeRules (a .width) (a .height) (layoutOf a ∷ others)) ≡ Passed
-    → (place : Place) → beyondDepth side (depths s) a ≡ found.At place → Small (badAt place)
-bad-in side s a others z place e =
+    → (place : Place) (v : ℕ) → beyondDepth side (depths s) a ≡ bads.At place v → Small (badAt place v)
+bad-in side s a others z place v e =
     let sized = sizes.fits _ _ _ z .0 .sized in
-    let b = at-in-planes-means a _ place .0 e in
-    bad-small place (omega (arith, b .plane-inside)) (omega (arith, b .first-there .row-inside, sized .height-within .to-most))
+    let b = picture-beyond side s a place v e .first-bad in
+    bad-small place v (omega (arith, b .plane-inside)) (omega (arith, b .first-there .row-inside, sized .height-within .to-most))
     (omega (arith, b .first-there .column-inside, sized .width-within .to-most))
 
 pub frame-unpacked : (w : Way) (s : Setting) (a : Picture) (b : Layout) → meaningInFrame (packedFrame (frameAnswer w s a b)) ≡ meaningOfFrame (frameAnswer w s a b)
@@ -179,7 +182,7 @@ word-out : (test : _) (a : Picture) (f : Found) → firstFailing test a ≡ f �
     → meaningInImage (packedImage (answerFound f)) ≡ meaningOfImage (answerFound f)
 word-out test a (found.At place) e h w =
     let b = first-place-means (fails test a) 0 (a .width) (a .height) (λ j i. fails test a j i ≡ true) (λ j i. fails test a j i ≡ false) (λ j i x y. (λ q. q, λ q. q)) (λ j i x y. (λ q. q, λ q. q)) place .0 e in
-    let f = fields 0 1 (place .row) (place .column) 0 (omega arith) (omega arith) (omega (arith, b .row-inside)) (omega (arith, b .column-inside)) (omega arith) in
+    let f = fields 0 1 (place .row) (place .column) 0 (omega arith) (omega arith) (omega (arith, b .row-inside)) (omega (arith, b .column-inside)) in
     free-means _ _ _ (ap (λ n. eqb n 0) (f .number-out))
     ∙ (λ i. meaningSource (eqb (f .second-out i) 0) (at (sym (b .plane-is) i) (f .first-out i) (f .middle-out i)))
 word-out test a found.Nothing e h w = refl

@@ -63,9 +63,9 @@ pub setting-before-sizes : frameAnswer Forward (with 17 8 8 9 true true) (pictur
 unfolding frameAnswer callAdmission first matrixOf
 setting-before-sizes = refl
 
--- of four bad samples in two planes and two rows the one of the lowest plane, in it of the lowest row, is named
-pub first-bad-named : frameAnswer Forward setting (picture 2 2 2 (0 ∷ 256 ∷ 256 ∷ 0 ∷ []) (256 ∷ 0 ∷ 0 ∷ 256 ∷ []) (0 ∷ 0 ∷ 0 ∷ 0 ∷ [])) (layout 2 4 4 4)
-    ≡ Refused (badAt (at 0 0 1))
+-- of five bad samples in two planes and two rows the one of the lowest plane, in it of the lowest row, is named, with its own number
+pub first-bad-named : frameAnswer Forward setting (picture 2 2 2 (0 ∷ 300 ∷ 301 ∷ 0 ∷ []) (302 ∷ 303 ∷ 0 ∷ 304 ∷ []) (0 ∷ 0 ∷ 0 ∷ 0 ∷ [])) (layout 2 4 4 4)
+    ≡ Refused (badAt (at 0 0 1) 300)
 unfolding frameAnswer callAdmission first matrixOf labelled among depthsServed agree areDepths isDepth atMost sizeOutside outside someLayout layoutShort anyShort badSample firstPlace placeInRow placeIf firstOf orFound
 first-bad-named = refl
 

@@ -14,12 +14,12 @@ at plane row column = record { plane = plane; row = row; column = column }
 abbrev pub nowhere : Place
 nowhere = at 0 0 0
 
--- a refusal that names no place, and refusal 10, which does
+-- a refusal that names no sample, and refusal 10, which does: its place, and the number that stands there
 abbrev pub numbered : ℕ → Refusal
-numbered n = record { number = n; place = nowhere }
+numbered n = record { number = n; place = nowhere; sample = 0 }
 
-abbrev pub badAt : Place → Refusal
-badAt p = record { number = 10; place = p }
+abbrev pub badAt : Place → ℕ → Refusal
+badAt p v = record { number = 10; place = p; sample = v }
 
 pub record Rule : Type 0 where
   pub refusal : Refusal

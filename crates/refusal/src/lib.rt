@@ -1,4 +1,4 @@
-// The one refusal type of every call: a number, and a place where the number is 10.
+// The one refusal type of every call: a number, and where that is 10 the sample, by its place and as it was found.
 ghost use mathlib.Core.Path.{_≡_};
 ghost use Rattle.refusal.specs.Rules.{numbered, badAt};
 
@@ -12,6 +12,8 @@ pub struct Place {
 pub struct Refusal {
     pub number: u8,
     pub place: Place,
+    // what stands there
+    pub sample: u16,
 }
 
 // What the rules of a call come to.
@@ -43,7 +45,7 @@ impl Refusal {
 
     pub const NOT_FOR_THIS_SETTING: u8 = 11;
 
-    // A refusal that names no place.
+    // A refusal that names no sample.
     pub fn numbered(number: u8) -> Refusal
         ensures { λ r. ⌜ r ≡ numbered number ⌝ }
     {
@@ -52,16 +54,21 @@ impl Refusal {
             row: 0,
             column: 0,
         };
-        Refusal { number, place }
+        Refusal {
+            number,
+            place,
+            sample: 0,
+        }
     }
 
-    // Refusal 10, with the place of the sample.
-    pub fn bad_at(place: Place) -> Refusal
-        ensures { λ r. ⌜ r ≡ badAt place ⌝ }
+    // Refusal 10, with the place of the sample and the sample.
+    pub fn bad_at(place: Place, sample: u16) -> Refusal
+        ensures { λ r. ⌜ r ≡ badAt place sample ⌝ }
     {
         Refusal {
             number: Self::SAMPLE_BEYOND_DEPTH,
             place,
+            sample,
         }
     }
 }

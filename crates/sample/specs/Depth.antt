@@ -1,6 +1,6 @@
 -- Depths: their two ends, and the upper end for a level matrix. No other definition has these three numbers.
 use mathlib.Core.Bool.{Bool, _&&_, cond}
-use Prim.Native.Nat.{ℕ, _-_, _^_, _≤_, _<_}
+use Prim.Native.Nat.{ℕ, zero, suc, _-_, _^_, _≤_, _<_}
 use lib.Dec.{leb}
 use Rattle.sample.specs.declared.RgbDepth.{RgbDepth}
 use Rattle.sample.specs.declared.LumaDepth.{LumaDepth}
@@ -117,6 +117,12 @@ pub record UpTo (most : ℕ) (p : Pixel) : Type 0 where
   pub p0-in : p .p0 ≤ most
   pub p1-in : p .p1 ≤ most
   pub p2-in : p .p2 ≤ most
+
+-- the depth of plane k of a side
+abbrev pub planeDepth : Side → Depths → ℕ → ℕ
+planeDepth side.Rgb d k = d .rgb .0
+planeDepth side.Ycc d zero = d .luma .0
+planeDepth side.Ycc d (suc k) = d .chroma .0
 
 -- the largest sample of each plane of a side
 abbrev pub tops : Side → Depths → Pixel

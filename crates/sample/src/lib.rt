@@ -232,7 +232,7 @@ fn power(bits: u8) -> u16
 }
 
 // M, the largest sample of a depth.
-fn largest(depth: u8) -> u16
+pub fn largest(depth: u8) -> u16
     requires { ⌜ depth ≤ mostDepth ⌝ }
     ensures { λ r. ⌜ r ≡ M depth ⌝ }
 {

@@ -1,5 +1,5 @@
 -- What the answer of a search for a bad sample means, and that it depends on the picture's samples alone.
-use mathlib.Core.Path.{_≡_, sym}
+use mathlib.Core.Path.{_≡_, refl, sym, ap, _∙_}
 use mathlib.Core.Bool.{true, false}
 use mathlib.Core.List.{List}
 use mathlib.Core.Logic.{_↔_}
@@ -10,7 +10,9 @@ use Rattle.sample.specs.declared.Pixel.{Pixel}
 use Rattle.refusal.specs.declared.Place.{Place}
 use Rattle.planes.specs.Plane.{sampleAt, SamePicture}
 use Rattle.planes.specs.Picture.{Picture, picture, planeAt, sampleOf, EveryPixel}
-use Rattle.scan.specs.First.{firstOf, isAbove, firstBad, badInPlane, badSample, AllFine, FinePlane, IsFirstBad, IsBadInPlane, IsBadSample, NotAbove}
+use Rattle.scan.specs.First.{firstOf, isAbove, firstBad, badInPlane, badSample, badFound, sampleOn, withSample, AllFine, FinePlane, IsFirstBad, IsBadInPlane, IsPlaceOf, IsBadSample, NotAbove}
+use Rattle.scan.specs.declared.Bad.the-variants as bad
+use Rattle.scan.specs.declared.Found.{Found}
 use Rattle.scan.specs.declared.Found.the-variants.{At, Nothing}
 use Rattle.scan.proofs.Searches.{nothing-exactly, found-exactly, no-place-means, first-place-means, first-place-same}
 
@@ -74,6 +76,11 @@ module _ (a : Picture) (tops : Pixel) where
   pub at-in-planes-means : (place : Place) → (badSample a tops ≡ At place) ↔ IsBadSample a tops place
   at-in-planes-means place = (found-lowest place, lowest-found place)
 
+  -- which is a place of the picture
+  pub bad-inside : (place : Place) → IsBadSample a tops place → IsPlaceOf a place
+  bad-inside place b =
+      record { plane-inside = b .plane-inside; row-inside = b .first-there .row-inside; column-inside = b .first-there .column-inside }
+
   fine : EveryPixel (NotAbove tops) a → (k : ℕ) → k < 3 → FinePlane a tops k
   fine h zero l j i x y = h j i x y .within0
   fine h (suc zero) l j i x y = h j i x y .within1
@@ -100,13 +107,32 @@ first-bad-same : (p q : List ℕ) (plane width height stride top : ℕ) → Same
 first-bad-same p q plane width height stride top e =
     first-place-same (isAbove p stride top) (isAbove q stride top) plane width height (λ j i a b. rw (e j i a b))
 
-pub bad-sample-same : (a : Picture) (q0 q1 q2 : List ℕ) (tops : Pixel) → SamePicture (a .width) (a .height) (a .stride) (a .p0) q0
-    → SamePicture (a .width) (a .height) (a .stride) (a .p1) q1 → SamePicture (a .width) (a .height) (a .stride) (a .p2) q2
-    → badSample a tops ≡ badSample (picture (a .width) (a .height) (a .stride) q0 q1 q2) tops
-unfolding badSample firstOf
-bad-sample-same a q0 q1 q2 tops e0 e1 e2 =
-    rw (
-      first-bad-same (a .p0) q0 0 (a .width) (a .height) (a .stride) (tops .p0) e0,
-      first-bad-same (a .p1) q1 1 (a .width) (a .height) (a .stride) (tops .p1) e1,
-      first-bad-same (a .p2) q2 2 (a .width) (a .height) (a .stride) (tops .p2) e2,
-    )
+module _ (a : Picture) (q0 q1 q2 : List ℕ) (e0 : SamePicture (a .width) (a .height) (a .stride) (a .p0) q0)
+    (e1 : SamePicture (a .width) (a .height) (a .stride) (a .p1) q1) (e2 : SamePicture (a .width) (a .height) (a .stride) (a .p2) q2)
+  where
+    abbrev q : Picture
+    q = picture (a .width) (a .height) (a .stride) q0 q1 q2
+
+    place-same : (tops : Pixel) → badSample a tops ≡ badSample q tops
+    unfolding badSample firstOf
+    place-same tops =
+        rw (
+          first-bad-same (a .p0) q0 0 (a .width) (a .height) (a .stride) (tops .p0) e0,
+          first-bad-same (a .p1) q1 1 (a .width) (a .height) (a .stride) (tops .p1) e1,
+          first-bad-same (a .p2) q2 2 (a .width) (a .height) (a .stride) (tops .p2) e2,
+        )
+
+    stands-same : (k : ℕ) → k < 3 → SamePicture (a .width) (a .height) (a .stride) (planeAt k a) (planeAt k q)
+    stands-same zero l = e0
+    stands-same (suc zero) l = e1
+    stands-same (suc (suc zero)) l = e2
+    stands-same (suc (suc (suc k))) l = absurd (omega arith)
+
+    with-same : (tops : Pixel) (f : Found) → badSample a tops ≡ f → withSample (sampleOn a) f ≡ withSample (sampleOn q) f
+    with-same tops (At place) e =
+        let i = bad-inside a tops place (at-in-planes-means a tops place .0 e) in
+        ap (bad.At place) (stands-same (place .plane) (i .plane-inside) (place .row) (place .column) (i .row-inside) (i .column-inside))
+    with-same tops Nothing e = refl
+
+    pub bad-found-same : (tops : Pixel) → badFound a tops ≡ badFound q tops
+    bad-found-same tops = with-same tops (badSample a tops) refl ∙ ap (withSample (sampleOn q)) (place-same tops)

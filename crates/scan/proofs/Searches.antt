@@ -10,7 +10,8 @@ use lib.ListN.{length, getD, take, drop}
 use Rattle.sample.proofs.Choices.{chose-first, chose-second}
 use Rattle.refusal.specs.Rules.{at}
 use Rattle.refusal.specs.declared.Place.{Place}
-use Rattle.scan.specs.First.{orFound, firstOf, placeIf, placeInRow, firstPlace, IsFirstPlace, largestOf, RunFine, Tells}
+use Rattle.scan.specs.First.{orFound, firstOf, placeIf, placeInRow, firstPlace, withSample, IsFirstPlace, largestOf, RunFine, Tells}
+use Rattle.scan.specs.declared.Bad.the-variants as bad
 use Rattle.scan.specs.declared.Found.{Found}
 use Rattle.scan.specs.declared.Found.the-variants.{At, Nothing}
 use Rattle.planes.specs.Plane.{sampleAt}
@@ -88,6 +89,18 @@ pub first-same : (f g : ℕ → Found) (n : ℕ) → ((i : ℕ) → i < n → f 
 unfolding firstOf
 first-same f g zero e = refl
 first-same f g (suc n) e = rw (first-same f g n (λ i h. e i (omega arith)), e n (omega arith))
+
+-- the sample that stands where something was found adds nothing to whether something was, and where
+pub none-with : (sample : Place → ℕ) (f : Found) → (withSample sample f ≡ bad.Nothing) ↔ (f ≡ Nothing)
+none-with sample (At place) = (λ e. absurd (true≢false cc), λ e. absurd (something place e))
+none-with sample Nothing = (λ e. refl, λ e. refl)
+
+pub found-with : (sample : Place → ℕ) (f : Found) (place : Place) (v : ℕ) → withSample sample f ≡ bad.At place v → (f ≡ At place) × (v ≡ sample place)
+found-with sample (At q) place v e =
+    let same : q ≡ place = cc in
+    let stands : sample q ≡ v = cc in
+    (ap At same, sym stands ∙ ap sample same)
+found-with sample Nothing place v e = absurd (true≢false cc)
 
 -- ---- the places of a picture
 

@@ -12,6 +12,8 @@ use Rattle.refusal.specs.declared.Place.{Place}
 use Rattle.sample.specs.declared.Pixel.{Pixel}
 use Rattle.planes.specs.Plane.{sampleAt}
 use Rattle.planes.specs.Picture.{Picture, planeAt, sampleOf}
+use Rattle.scan.specs.declared.Bad.{Bad}
+use Rattle.scan.specs.declared.Bad.the-variants as bad
 use Rattle.scan.specs.declared.Found.{Found}
 use Rattle.scan.specs.declared.Found.the-variants.{At, Nothing}
 
@@ -53,10 +55,23 @@ badInPlane a tops k = firstBad (planeAt k a) k (a .width) (a .height) (a .stride
 unfoldable pub badSample : Picture → Pixel → Found
 badSample a tops = firstOf 3 (badInPlane a tops)
 
+-- the sample of a picture that stands at a place
+abbrev pub sampleOn : Picture → Place → ℕ
+sampleOn a place = sampleAt (planeAt (place .plane) a) (a .stride) (place .row) (place .column)
+
+-- what a search has found, with the sample that stands there
+abbrev pub withSample : (Place → ℕ) → Found → Bad
+withSample sample (At place) = bad.At place (sample place)
+withSample sample Nothing = bad.Nothing
+
+-- the first bad sample of a picture, and the number that stands there
+abbrev pub badFound : Picture → Pixel → Bad
+badFound a tops = withSample (sampleOn a) (badSample a tops)
+
 -- rule 10, by what the search for a bad sample has found
-abbrev pub badRule : Found → Rule
-badRule (At place) = record { refusal = badAt place; applies = true }
-badRule Nothing = rule 10 false
+abbrev pub badRule : Bad → Rule
+badRule (bad.At place v) = record { refusal = badAt place v; applies = true }
+badRule bad.Nothing = rule 10 false
 
 -- the largest of the first n elements, or 0 of none
 unfoldable pub largestOf : ℕ → List ℕ → ℕ
@@ -105,6 +120,12 @@ FinePlane a tops k = AllFine (planeAt k a) (a .width) (a .height) (a .stride) (s
 
 abbrev pub IsBadInPlane : Picture → Pixel → ℕ → Place → Type 0
 IsBadInPlane a tops k = IsFirstBad (planeAt k a) k (a .width) (a .height) (a .stride) (sampleOf k tops)
+
+-- a place inside a picture
+pub record IsPlaceOf (a : Picture) (place : Place) : Type 0 where
+  pub plane-inside : place .plane < 3
+  pub row-inside : place .row < a .height
+  pub column-inside : place .column < a .width
 
 -- what it is to be the first bad sample of a picture
 pub record IsBadSample (a : Picture) (tops : Pixel) (place : Place) : Type 0 where

@@ -5,7 +5,7 @@ ghost use Prim.Native.Nat.{_+_, _≤_};
 ghost use lib.ListN.{length};
 ghost use Rattle.planes.specs.Sizes.{Sized, Long, needed};
 ghost use Rattle.planes.specs.Picture.{picture};
-ghost use Rattle.scan.specs.First.{largestOf, largestPixel, firstBad, badSample, AllFine, RunsFine, Tells};
+ghost use Rattle.scan.specs.First.{largestOf, largestPixel, firstBad, badSample, badFound, sampleOn, AllFine, RunsFine, Tells, IsPlaceOf};
 use planes::size::row_start;
 use refusal::Place;
 use sample::Pixel;
@@ -14,6 +14,12 @@ use sample::larger;
 // What a search finds.
 pub enum Found {
     At(Place),
+    Nothing,
+}
+
+// The same of a search for a bad sample: its place, and the number that stands there.
+pub enum Bad {
+    At(Place, u16),
     Nothing,
 }
 
@@ -121,8 +127,8 @@ pub fn first_bad(
     found
 }
 
-// The first bad sample of three planes, where `tops` has the largest sample of each: in the lowest plane that has one.
-pub fn first_bad_of_three(
+// The place of the first bad sample of three planes, where `tops` has the largest sample of each: in the lowest plane that has one.
+fn first_bad_of_three(
     a0: &[u16],
     a1: &[u16],
     a2: &[u16],
@@ -144,4 +150,53 @@ pub fn first_bad_of_three(
         return found1;
     }
     first_bad(a2, 2, width, height, stride, tops.p2)
+}
+
+// The sample that stands at a place of three planes.
+fn sample_on(
+    place: Place,
+    width: usize,
+    height: usize,
+    stride: usize,
+    a0: &[u16],
+    a1: &[u16],
+    a2: &[u16],
+) -> u16
+    requires { ⌜ Sized width height stride ⌝ }
+    requires { ⌜ Long (needed width height stride) (length (now a0)) (length (now a1)) (length (now a2)) ⌝ }
+    requires { ⌜ IsPlaceOf (picture width height stride (now a0) (now a1) (now a2)) place ⌝ }
+    ensures { λ r. ⌜ r ≡ sampleOn (picture width height stride (now (a0 .entry)) (now (a1 .entry)) (now (a2 .entry))) place ⌝ }
+{
+    let plane = place.plane;
+    let row = place.row as usize;
+    let column = place.column as usize;
+    let k = row_start(row, height, stride) + column;
+    match plane {
+        0 => a0[k],
+        1 => a1[k],
+        _ => a2[k],
+    }
+}
+
+// The first bad sample of three planes, and its number.
+pub fn bad_of_three(
+    a0: &[u16],
+    a1: &[u16],
+    a2: &[u16],
+    width: usize,
+    height: usize,
+    stride: usize,
+    tops: Pixel,
+) -> Bad
+    requires { ⌜ Sized width height stride ⌝ }
+    requires { ⌜ Long (needed width height stride) (length (now a0)) (length (now a1)) (length (now a2)) ⌝ }
+    ensures { λ r. ⌜ r ≡ badFound (picture width height stride (now (a0 .entry)) (now (a1 .entry)) (now (a2 .entry))) tops ⌝ }
+{
+    match first_bad_of_three(a0, a1, a2, width, height, stride, tops) {
+        Found::At(place) => {
+            let sample = sample_on(place, width, height, stride, a0, a1, a2);
+            Bad::At(place, sample)
+        }
+        Found::Nothing => Bad::Nothing,
+    }
 }

@@ -15,7 +15,7 @@ pub fn yardstick_agrees(s: &Setting, large: Shape) {
     for bad in [&[(2, 0, 1)][..], &[(1, 4, 32)], &[(2, 0, 0), (1, 3, 30), (1, 3, 31)], &[(0, 0, 33)]] {
         let mut planes = source(&PADDED);
         for &(plane, row, column) in bad {
-            planes[plane][row * PADDED.source_stride + column] = 256;
+            planes[plane][row * PADDED.source_stride + column] = 256 + column as u16;
         }
         assert_same(s, &PADDED, &planes, PADDED.output_length());
     }

@@ -44,7 +44,9 @@ fn said(outcome: Result<(), Refusal>) -> String {
     match outcome {
         Ok(()) => String::from("done"),
         Err(Refusal::Number(number)) => format!("refused {}", number),
-        Err(Refusal::Sample(plane, row, column)) => format!("refused 10 plane {} row {} column {}", plane, row, column),
+        Err(Refusal::Sample(plane, row, column, sample)) => {
+            format!("refused 10 plane {} row {} column {} sample {}", plane, row, column, sample)
+        }
     }
 }
 

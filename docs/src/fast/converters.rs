@@ -21,7 +21,7 @@ fn for_box(s: &Setting) -> cork::Setting {
 
 fn refusal(r: cork::Refusal) -> Refusal {
     match r.number {
-        10 => Refusal::Sample(usize::from(r.plane), usize::from(r.row), usize::from(r.column)),
+        10 => Refusal::Sample(usize::from(r.plane), usize::from(r.row), usize::from(r.column), r.sample),
         number => Refusal::Number(number),
     }
 }

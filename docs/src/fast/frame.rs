@@ -47,7 +47,7 @@ fn judge(s: &Setting, way: Way, width: usize, height: usize, from: &Source, to: 
             // a whole row first, which the compiler turns into vector instructions
             if samples.iter().fold(0, |most, &v| v.max(most)) > largest {
                 let column = samples.iter().position(|&v| v > largest).unwrap_or(0);
-                return Err(Refusal::Sample(k, row, column));
+                return Err(Refusal::Sample(k, row, column, samples[column]));
             }
         }
     }

@@ -21,8 +21,8 @@ pub enum Way {
 #[derive(Clone, Copy, Debug, PartialEq, Eq)]
 pub enum Refusal {
     Number(u8),
-    /// Number 10: plane, row and column.
-    Sample(usize, usize, usize),
+    /// Number 10: plane, row and column, and the sample.
+    Sample(usize, usize, usize, u16),
 }
 
 /// The formulas that a matrix code stands for; KR and KB in ten-thousandths.

@@ -142,7 +142,7 @@ fn first_too_large(width: usize, height: usize, from: &Source) -> Refusal {
     let mut found = places.filter_map(|(plane, row)| {
         let samples = row_of(from.planes[plane], row, from.stride, width);
         let column = samples.iter().position(|&sample| sample > LARGEST)?;
-        Some(Refusal::Sample(plane, row, column))
+        Some(Refusal::Sample(plane, row, column, samples[column]))
     });
     found.next().expect("a sample that is too large")
 }

@@ -138,9 +138,9 @@ fn yes_or_none(found: bool) -> String {
 fn refused(refusal: Refusal) -> String {
     match refusal {
         Refusal::Number(number) => format!("refused {}", number),
-        Refusal::Sample(place) => format!(
-            "refused 10 plane {} row {} column {}",
-            place.plane, place.row, place.column
+        Refusal::Sample(place, sample) => format!(
+            "refused 10 plane {} row {} column {} sample {}",
+            place.plane, place.row, place.column, sample
         ),
     }
 }

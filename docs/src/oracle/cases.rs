@@ -283,8 +283,8 @@ impl Cases {
         }
     }
 
-    /// 2^depth or the largest u16; a plane of 16 bits has no bad samples and
-    /// gets its largest good one.
+    /// 2^depth, the largest u16 or one between them; a plane of 16 bits has no
+    /// bad samples and gets its largest good one.
     fn past_depth(&mut self, letter: char, s: &Setting) -> Pixel {
         let depths = match letter {
             'f' => source_depths(s, Way::Forward),
@@ -292,7 +292,7 @@ impl Cases {
         };
         depths.map(|depth| {
             let least = (1u32 << depth).min(65535);
-            self.random.pick(&[least as u16, 65535])
+            self.random.from_on(least as u16)
         })
     }
 

@@ -31,6 +31,17 @@ impl Random {
         from[self.below(from.len() as u64) as usize]
     }
 
+    /// The number itself, the largest u16 or one between them, by one draw.
+    pub fn from_on(&mut self, least: u16) -> u16 {
+        let draw = self.next();
+        let between = draw / 4 % (65536 - u64::from(least));
+        match draw % 4 {
+            0 => least,
+            2 => least + between as u16,
+            _ => 65535,
+        }
+    }
+
     /// Puts the items into a random order.
     pub fn shuffle<T>(&mut self, items: &mut [T]) {
         for last in (1..items.len()).rev() {

@@ -65,17 +65,20 @@ pub const REFUSALS: [Line; 14] = [
     ("s 1 1 8 8 8 8 1 1 999 0 0", "refused 11"),
     ("m 1 1 0 8 8 8 1 1 999 0 0", "refused 11"),
     (
-        "f 1 1 0 8 8 8 1 1 0 256 256",
-        "refused 10 plane 1 row 0 column 0",
+        "f 1 1 0 8 8 8 1 1 0 300 301",
+        "refused 10 plane 1 row 0 column 0 sample 300",
     ),
     (
         "s 1 1 8 8 8 9 1 1 0 511 512",
-        "refused 10 plane 2 row 0 column 0",
+        "refused 10 plane 2 row 0 column 0 sample 512",
     ),
-    ("c 1 1 1 8 8 8 1 1 256", "refused 10 plane 2 row 0 column 0"),
     (
-        "m 1 1 1 8 8 8 1 1 255 256 256",
-        "refused 10 plane 1 row 0 column 0",
+        "c 1 1 1 8 8 8 1 1 256",
+        "refused 10 plane 2 row 0 column 0 sample 256",
+    ),
+    (
+        "m 1 1 1 8 8 8 1 1 255 257 256",
+        "refused 10 plane 1 row 0 column 0 sample 257",
     ),
     // A half below zero: (0 - 1) / 2 goes to -1, not to 0.
     ("f 1 1 8 8 8 8 1 1 0 0 1", "samples 0 128 127"),
@@ -96,7 +99,7 @@ pub const PIXEL_ORDER: [Line; 10] = [
     ("s 1 1 8 8 8 8 1 1 65535 0 0", "refused 11"),
     (
         "s 1 1 8 8 8 9 1 1 65535 0 0",
-        "refused 10 plane 0 row 0 column 0",
+        "refused 10 plane 0 row 0 column 0 sample 65535",
     ),
     ("s 1 1 8 8 8 9 1 1 0 256 256", "yes"),
 ];
@@ -113,8 +116,8 @@ pub const FRAMES: [Line; 9] = [
         "done\n255 0 0 0\n0 0 0 255 0\n0 0 0 0 0 0",
     ),
     (
-        "R 1 1 8 8 8 9 1 1 1 2 2 3 3 63 65535 127 3 129 65535 512 3 511 65535 512 4 5 6 9",
-        "refused 10 plane 1 row 1 column 0\n0 0 0 0\n0 0 0 0 0\n0 0 0 0 0 0",
+        "R 1 1 8 8 8 9 1 1 1 2 2 3 3 63 65535 127 3 129 65535 513 3 511 65535 514 4 5 6 9",
+        "refused 10 plane 1 row 1 column 0 sample 513\n0 0 0 0\n0 0 0 0 0\n0 0 0 0 0 0",
     ),
     (
         "F 1 1 0 8 8 8 1 1 1 1 1 1 1 0 1 0 1 0 1 0 2 9",
@@ -144,7 +147,7 @@ pub const FRAME_ORDER: [Line; 15] = [
     ("I 1 1 8 8 8 9 1 1 1 1 1 0 0 1 999", "refused 9"),
     (
         "I 1 1 8 8 8 9 1 1 1 1 1 1 0 1 0 1 999",
-        "refused 10 plane 2 row 0 column 0",
+        "refused 10 plane 2 row 0 column 0 sample 999",
     ),
     ("I 1 1 8 8 8 9 1 1 1 1 1 1 0 1 0 1 0", "none row 0 column 0"),
     ("I 1 1 8 8 8 9 1 1 8193 1 8193 0 0 0", "refused 8"),

@@ -6,7 +6,7 @@ use Rattle.refusal.specs.Rules.{first}
 use Rattle.sample.specs.Depth.{tops}
 use Rattle.setting.specs.Rules.{admitted}
 use Rattle.setting.specs.declared.admission.Admission.the-variants.{Admitted}
-use Rattle.scan.specs.First.{badRule, badSample}
+use Rattle.scan.specs.First.{badRule, badFound}
 use Rattle.planes.specs.Picture.{Picture, picture, layoutOf}
 use Rattle.planes.specs.Sizes.{sizeRules}
 use Rattle.planes.proofs.SizeTheorems.{fits}
@@ -34,8 +34,8 @@ let-in c = sym (c .before .before .admit-sizes .ensures) ∙ c .admission .given
 tops-requires : tie.Need-tops-requires
 tops-requires c κs = let s = c .before .before .before .before .before .before .before .before .before in sized-ready (s .args .call) (s .args .s) _ _ (let-in (c .before .before .before)) .three
 
-first-bad-of-three-requires : tie.Need-first-bad-of-three-requires
-first-bad-of-three-requires c κs =
+bad-of-three-requires : tie.Need-bad-of-three-requires
+bad-of-three-requires c κs =
     let s = c .before .before .before .before .before .before .before .before .before .before in
     let f = fits _ _ _ (sized (s .args .call) (s .args .s) _ _ (let-in (c .before .before .before .before)) .1) .0 in
     (f .sized, f .long)
@@ -45,8 +45,8 @@ returns-2 c =
     let s = c .before .before .before .before .before .before .before .before .before .before .before .before in
     let l = let-in (c .before .before .before .before .before .before) in
     let same = is-served (s .args .call) (s .args .s) _ _ l in
-    let found = c .before .first-bad-of-three .ensures
-    ∙ ap (badSample (lent s)) (c .before .before .tops .ensures ∙ (λ i. tops (c .before .before .before .reads .ensures i) (sym same i .depths))) in
+    let found = c .before .bad-of-three .ensures
+    ∙ ap (badFound (lent s)) (c .before .before .tops .ensures ∙ (λ i. tops (c .before .before .before .reads .ensures i) (sym same i .depths))) in
     c .past .ensures ∙ ap (λ f. admitted (first (badRule f ∷ [])) (c .before .before .before .before .before .before .admission .given .0 .0)) found
     ∙ then-samples (s .args .call) (s .args .s) _ _ l _
 
@@ -54,4 +54,4 @@ pub admit-picture-spec : {M : Type 1} → statement M
 admit-picture-spec =
     tie.close
     (tie.spec (λ c κs. search needs) (λ c. search needs) (λ c. search needs) returns (λ c κs. search needs) tops-requires
-    first-bad-of-three-requires (λ c κs. search needs) returns-2)
+    bad-of-three-requires (λ c κs. search needs) returns-2)

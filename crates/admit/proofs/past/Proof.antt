@@ -6,7 +6,7 @@ use Rattle.admit.proofs.past.Tie as tie
 
 returns : tie.Need-returns
 unfolding first
-returns c = rw (c .bad-at .ensures, c .before .before .found .given .1)
+returns c = rw (c .bad-at .ensures, c .before .before .bad .given .1)
 
 returns-2 : tie.Need-returns-2
 unfolding first

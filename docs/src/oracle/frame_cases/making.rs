@@ -106,7 +106,7 @@ impl Cases {
     /// Puts a sample past its depth into the picture.
     pub fn spoil(&mut self, frame: &mut Frame, plane: usize, row: u64, column: u64) {
         let depth = source_depths(&frame.setting, frame.way())[plane];
-        let bad = self.random.pick(&[1u16 << depth, 65535]);
+        let bad = self.random.from_on(1u16 << depth);
         let index = (row * frame.source.stride + column) as usize;
         frame.source.planes[plane][index] = bad;
     }

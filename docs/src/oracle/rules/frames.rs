@@ -65,11 +65,12 @@ fn picture_refusal(size: Size, source: &Side, depths: [u8; 3]) -> Result<(), Ref
             for column in 0..size.width {
                 let value = source.pixel(row, column)[plane];
                 if !within_depth(i128::from(value), depths[plane]) {
-                    return Err(Refusal::Sample(Place {
+                    let place = Place {
                         plane,
                         row: row as usize,
                         column: column as usize,
-                    }));
+                    };
+                    return Err(Refusal::Sample(place, value));
                 }
             }
         }

@@ -16,8 +16,8 @@ pub struct Place {
 pub enum Refusal {
     /// Every number but 10.
     Number(u8),
-    /// Number 10, with the first bad sample.
-    Sample(Place),
+    /// Number 10, with the first bad sample: where it is, and what it is.
+    Sample(Place, u16),
 }
 
 /// Refusals 1 to 7: the first row that holds decides.
@@ -82,11 +82,12 @@ pub fn sample_refusal(plane: usize, value: u16, depth: u8) -> Result<(), Refusal
     if within_depth(i128::from(value), depth) {
         return Ok(());
     }
-    Err(Refusal::Sample(Place {
+    let place = Place {
         plane,
         row: 0,
         column: 0,
-    }))
+    };
+    Err(Refusal::Sample(place, value))
 }
 
 pub fn pixel_refusal(pixel: Pixel, depths: [u8; 3]) -> Result<(), Refusal> {
