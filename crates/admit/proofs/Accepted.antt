@@ -6,11 +6,10 @@ use mathlib.Core.Logic.{_↔_}
 use Prim.Native.Nat.{ℕ, _^_, _≤_, _<_}
 use native.Mathlib.Omega.{arith}
 use lib.Pow.{pow-pos}
-use Rattle.sample.specs.Depth.{M, Inside, InsideOf, tops}
+use Rattle.sample.specs.Depth.{M, Inside, planeDepth, InsideOf, tops}
 use Rattle.sample.specs.declared.Depths.{Depths}
 use Rattle.sample.specs.declared.Pixel.{Pixel}
 use Rattle.sample.specs.declared.Side.{Side}
-use Rattle.sample.specs.declared.Side.the-variants.{Rgb, Ycc}
 use Rattle.refusal.specs.Rules.{Rule, first}
 use Rattle.refusal.specs.declared.Check.the-variants.{Passed}
 use Rattle.refusal.proofs.RuleLaws.{neither}
@@ -88,8 +87,7 @@ not-above x y z p = (
 )
 
 pub inside-of : (side : Side) (d : Depths) (p : Pixel) → NotAbove (tops side d) p ↔ InsideOf side d p
-inside-of Rgb d p = not-above (d .rgb .0) (d .rgb .0) (d .rgb .0) p
-inside-of Ycc d p = not-above (d .luma .0) (d .chroma .0) (d .chroma .0) p
+inside-of side d p = not-above (planeDepth side d 0) (planeDepth side d 1) (planeDepth side d 2) p
 
 -- no sample of a picture is bad exactly if every pixel lies within the depths of its side
 pub inside-exactly : (side : Side) (d : Depths) (a : Picture) → (beyondDepth side d a ≡ Nothing) ↔ EveryPixel (InsideOf side d) a

@@ -2,14 +2,14 @@
 -- was handed. Who meets none of them is let in.
 use mathlib.Core.List.{List, [], _∷_, _++_}
 use Prim.Native.Nat.{ℕ}
-use Rattle.sample.specs.Depth.{M, tops}
+use Rattle.sample.specs.Depth.{M, planeDepth, tops}
 use Rattle.sample.specs.declared.Depths.{Depths}
 use Rattle.sample.specs.declared.Pixel.{Pixel}
 use Rattle.sample.specs.declared.Side.{Side}
+use Rattle.sample.specs.declared.Side.the-variants.{Ycc}
 use Rattle.refusal.specs.Rules.{Rule, first}
 use Rattle.meter.specs.Level.{planeNumber}
 use Rattle.meter.specs.declared.SampleKind.{SampleKind}
-use Rattle.meter.specs.declared.SampleKind.the-variants as kind
 use Rattle.setting.specs.Call.{reads}
 use Rattle.setting.specs.Rules.{depths, served, settingRules, admitted}
 use Rattle.setting.specs.declared.Call.{Call}
@@ -59,9 +59,7 @@ pixelAdmission call s p = callAdmission call s [] (beyondDepth (reads call) (dep
 
 -- the meter on one sample of a kind, which alone is looked at and whose plane is named
 abbrev pub topOf : SampleKind → Depths → ℕ
-topOf kind.Y d = M (d .luma .0)
-topOf kind.Cb d = M (d .chroma .0)
-topOf kind.Cr d = M (d .chroma .0)
+topOf k d = M (planeDepth Ycc d (planeNumber k))
 
 abbrev pub badOne : SampleKind → Depths → ℕ → Bad
 badOne k d v = withSample (λ place. v) (firstBad (v ∷ []) (planeNumber k) 1 1 1 (topOf k d))

@@ -6,7 +6,7 @@ use native.Mathlib.Omega.{arith}
 use Rattle.sample.specs.Depth.{M, planeDepth, tops}
 use Rattle.sample.specs.declared.Depths.{Depths}
 use Rattle.sample.specs.declared.Side.{Side}
-use Rattle.sample.specs.declared.Side.the-variants.{Rgb, Ycc}
+use Rattle.sample.specs.declared.Side.the-variants.{Ycc}
 use Rattle.refusal.specs.declared.Place.{Place}
 use Rattle.planes.specs.Picture.{Picture, sampleOf}
 use Rattle.scan.specs.First.{firstBad, badSample, sampleOn}
@@ -17,7 +17,6 @@ use Rattle.setting.specs.Rules.{depths}
 use Rattle.setting.specs.declared.Setting.{Setting}
 use Rattle.meter.specs.Level.{planeNumber}
 use Rattle.meter.specs.declared.SampleKind.{SampleKind}
-use Rattle.meter.specs.declared.SampleKind.the-variants as kind
 use Rattle.admit.specs.Rules.{beyondDepth, topOf, badOne}
 use Rattle.promises.specs.Refusing.{BadIn, BadSampleOf}
 
@@ -26,12 +25,9 @@ more-bits : (d v : ℕ) → M d < v → 2 ^ d ≤ v
 more-bits d v h = omega arith
 
 plane-bits : (side : Side) (d : Depths) (k v : ℕ) → k < 3 → sampleOf k (tops side d) < v → 2 ^ planeDepth side d k ≤ v
-plane-bits Rgb d zero v l h = more-bits (d .rgb .0) v h
-plane-bits Rgb d (suc zero) v l h = more-bits (d .rgb .0) v h
-plane-bits Rgb d (suc (suc zero)) v l h = more-bits (d .rgb .0) v h
-plane-bits Ycc d zero v l h = more-bits (d .luma .0) v h
-plane-bits Ycc d (suc zero) v l h = more-bits (d .chroma .0) v h
-plane-bits Ycc d (suc (suc zero)) v l h = more-bits (d .chroma .0) v h
+plane-bits side d zero v l h = more-bits (planeDepth side d 0) v h
+plane-bits side d (suc zero) v l h = more-bits (planeDepth side d 1) v h
+plane-bits side d (suc (suc zero)) v l h = more-bits (planeDepth side d 2) v h
 plane-bits side d (suc (suc (suc k))) v l h = absurd (omega arith)
 
 pub picture-beyond : (side : Side) (s : Setting) (a : Picture) (place : Place) (v : ℕ) → beyondDepth side (depths s) a ≡ At place v → BadIn side s a place v
@@ -45,16 +41,11 @@ picture-beyond side s a place v e =
     }
 
 -- one sample by its kind, which stands alone
-kind-bits : (k : SampleKind) (d : Depths) (v : ℕ) → topOf k d < v → 2 ^ planeDepth Ycc d (planeNumber k) ≤ v
-kind-bits kind.Y d v h = more-bits (d .luma .0) v h
-kind-bits kind.Cb d v h = more-bits (d .chroma .0) v h
-kind-bits kind.Cr d v h = more-bits (d .chroma .0) v h
-
 pub sample-beyond : (k : SampleKind) (s : Setting) (v : ℕ) (place : Place) (w : ℕ) → badOne k (depths s) v ≡ At place w → BadSampleOf k s v place w
 sample-beyond k s v place w e =
     let f = found-with (λ place. v) (firstBad (v ∷ []) (planeNumber k) 1 1 1 (topOf k (depths s))) place w e in
     let b = at-means (v ∷ []) (planeNumber k) 1 1 1 (topOf k (depths s)) place .0 (f .0) in
     let row : place .row ≡ 0 = omega (arith, b .row-inside) in
     let column : place .column ≡ 0 = omega (arith, b .column-inside) in
-    let bits : 2 ^ planeDepth Ycc (depths s) (planeNumber k) ≤ v = kind-bits k (depths s) v (rw (row, column) at (b .fails)) in
+    let bits : 2 ^ planeDepth Ycc (depths s) (planeNumber k) ≤ v = more-bits _ v (rw (row, column) at (b .fails)) in
     record { first-bad = b; as-found = f .1; beyond = rw (b .plane-is, f .1) bits }

@@ -23,7 +23,6 @@ use Rattle.setting.specs.declared.Way.{Way}
 use Rattle.setting.specs.declared.admission.Admission.{Admission}
 use Rattle.setting.specs.declared.admission.Admission.the-variants as admission
 use Rattle.setting.specs.declared.admission.Served.{Served}
-use Rattle.meter.specs.Level.{planeNumber}
 use Rattle.meter.specs.declared.SampleKind.{SampleKind}
 use Rattle.scan.specs.First.{badRule}
 use Rattle.planes.specs.Picture.{Picture, layoutOf}
@@ -34,10 +33,9 @@ use Rattle.scan.specs.declared.Found.{Found}
 use Rattle.scan.specs.declared.Found.the-variants as found
 use Rattle.planes.specs.declared.size.Layout.{Layout}
 use Rattle.plan.specs.Source.{hasSource}
-use Rattle.admit.specs.Rules.{callRules, callAdmission, pictureRules, pixelRules, sampleRules, pixelPicture, topOf}
+use Rattle.admit.specs.Rules.{callRules, callAdmission, pictureRules, pixelRules, sampleRules, pixelPicture}
 use Rattle.admit.proofs.Accepted.{Accepted, accepted-of, of-accepted}
 use Rattle.admit.proofs.AdmitLaws.{admitted-passed, each-answer}
-use Rattle.setting.specs.Rules.{depths}
 use Rattle.frame.specs.Frame.{frameBy, frameAnswer}
 use Rattle.image_check.specs.Image.{firstFailing, answerFound, imageBy, imageAnswer}
 use Rattle.corkplover.specs.Answers.{convertedBy, pixelAnswer, sourceBy, sourceAnswer, readBy, reading, levelsReadBy, levelsAnswer}

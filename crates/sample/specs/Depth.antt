@@ -107,10 +107,15 @@ InsideRGB d p = Inside (d .rgb .0) (d .rgb .0) (d .rgb .0) p
 abbrev pub InsideYCC : Depths → Pixel → Type 0
 InsideYCC d p = Inside (d .luma .0) (d .chroma .0) (d .chroma .0) p
 
--- the same of the side of a setting that the pixel belongs to
+-- the depth of plane k of a side of a setting
+abbrev pub planeDepth : Side → Depths → ℕ → ℕ
+planeDepth side.Rgb d k = d .rgb .0
+planeDepth side.Ycc d zero = d .luma .0
+planeDepth side.Ycc d (suc k) = d .chroma .0
+
+-- a pixel of a side, within the depths of its planes
 abbrev pub InsideOf : Side → Depths → Pixel → Type 0
-InsideOf side.Rgb d p = InsideRGB d p
-InsideOf side.Ycc d p = InsideYCC d p
+InsideOf side d p = Inside (planeDepth side d 0) (planeDepth side d 1) (planeDepth side d 2) p
 
 -- a pixel with no sample above `most`
 pub record UpTo (most : ℕ) (p : Pixel) : Type 0 where
@@ -118,13 +123,6 @@ pub record UpTo (most : ℕ) (p : Pixel) : Type 0 where
   pub p1-in : p .p1 ≤ most
   pub p2-in : p .p2 ≤ most
 
--- the depth of plane k of a side
-abbrev pub planeDepth : Side → Depths → ℕ → ℕ
-planeDepth side.Rgb d k = d .rgb .0
-planeDepth side.Ycc d zero = d .luma .0
-planeDepth side.Ycc d (suc k) = d .chroma .0
-
 -- the largest sample of each plane of a side
 abbrev pub tops : Side → Depths → Pixel
-tops side.Rgb d = record { p0 = M (d .rgb .0); p1 = M (d .rgb .0); p2 = M (d .rgb .0) }
-tops side.Ycc d = record { p0 = M (d .luma .0); p1 = M (d .chroma .0); p2 = M (d .chroma .0) }
+tops side d = record { p0 = M (planeDepth side d 0); p1 = M (planeDepth side d 1); p2 = M (planeDepth side d 2) }

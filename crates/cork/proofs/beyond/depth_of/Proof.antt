@@ -1,5 +1,5 @@
 -- `cork::beyond::depth_of` meets its contract: every plane of YCbCr but the first has the depth of chroma.
-use mathlib.Core.Path.{_≡_, refl, sym}
+use mathlib.Core.Path.{_≡_, refl}
 use Prim.Native.Nat.{ℕ, zero, suc}
 use borrow.Author.Needs.{needs}
 use Rattle.sample.specs.Depth.{planeDepth}
