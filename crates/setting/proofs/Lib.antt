@@ -1,4 +1,5 @@
 -- Laws of settings.
 pub mod Codes
 pub mod LabelLaws
+pub mod Table
 pub mod ReadyLaws

@@ -1,13 +1,11 @@
 -- A setting that no rule refuses is ready: rules 6 and 7 say so of its depths, and the table of matrices of its formulas.
 use mathlib.Core.Path.{_≡_, refl, sym, subst}
 use mathlib.Core.Bool.{Bool, true, false, true≢false}
-use mathlib.Core.List.{List, [], _∷_}
-use Prim.Native.Nat.{ℕ, zero, suc, _+_, _≤_, _<_}
+use Prim.Native.Nat.{ℕ, _+_, _≤_, _<_}
 use native.Mathlib.Omega.{arith}
 use borrow.Author.Needs.{needs}
 use borrow.Author.Tests.{eqb-true, leb-true, not-false}
 use lib.Dec.{eqb, leb}
-use lib.ListN.{getD}
 use Rattle.sample.specs.Depth.{mostLevelDepth, areDepths, atMost, ThreeDepths}
 use Rattle.sample.specs.declared.Depths.{Depths}
 use Rattle.sample.proofs.DepthLaws.{AtMost, depths-of, at-most-of}
@@ -18,7 +16,7 @@ use Rattle.refusal.proofs.RuleLaws.{passed-over}
 use Rattle.levels.specs.Conversion.{MatrixFits}
 use Rattle.levels.specs.Equations.{allParts, weights}
 use Rattle.levels.proofs.Bounds.{luma-fits, shares}
-use Rattle.setting.specs.Matrix.{lumaEntry, matrices, matrixOf}
+use Rattle.setting.specs.Matrix.{lumaEntry, matrixOf}
 use Rattle.setting.specs.Agreement.{depthsServed, bonded, agree, keeps, answers}
 use Rattle.setting.specs.Rules.{entryOf, entry, depths, depthRules, entryRules, settingRules, served}
 use Rattle.setting.specs.Ready.{Agreed, Ready, Keeping, Keeps}
@@ -34,6 +32,7 @@ use Rattle.setting.specs.declared.matrix.Formulas.the-variants.{ChangePl
 use Rattle.setting.specs.declared.matrix.Lossless.the-variants.{From, Never}
 use Rattle.setting.specs.declared.matrix.Matrix.{Matrix}
 use Rattle.setting.specs.declared.matrix.Matrix.the-variants as matrix
+use Rattle.setting.proofs.Table.{at-code}
 
 -- what the table of matrices gives each kind of formulas
 abbrev Bound : Bond → Type 0
@@ -48,24 +47,11 @@ SoundAs (Levels m) e = MatrixFits m × ((e .deepest ≡ mostLevelDepth) × (e .l
 abbrev Sound : Matrix → Type 0
 Sound m = SoundAs (entryOf m .formulas) (entryOf m)
 
-abbrev Each : List Matrix → Type 0
-Each [] = Unit
-Each (m ∷ ms) = Sound m × Each ms
-
-sound-at : (ms : List Matrix) (n : ℕ) → Each ms → Sound (getD ms n matrix.Reserved)
-sound-at [] n e = (refl, refl)
-sound-at (m ∷ ms) zero e = e .0
-sound-at (m ∷ ms) (suc n) e = sound-at ms n (e .1)
-
 luma-sound : (kr kb : ℕ) → kr + kb < allParts → Sound (matrix.Served (lumaEntry kr kb))
 luma-sound kr kb h = (luma-fits (weights kr kb) (shares kr kb h), (refl, refl))
 
-all-sound : Each matrices
-all-sound = search (luma-sound, needs) depth 60
-
 sound : (code : ℕ) → Sound (matrixOf code)
-unfolding matrixOf
-sound code = sound-at matrices code all-sound
+sound = at-code Sound (refl, refl) (search (luma-sound, needs) depth 60)
 
 -- Y is no less deep than RGB where a bond binds them
 bond-holds : (b : Bond) (d : Depths) (rgb ycc : Bool) → Bound b → bonded b d rgb ycc ≡ true → d .rgb .0 ≤ d .luma .0
