@@ -1,20 +1,19 @@
 -- Demand 3: which settings are lossless, for every setting there is.
 use mathlib.Core.Path.{_≡_, refl, sym, ap, _∙_, subst}
-use mathlib.Core.Bool.{Bool, true, false, true≢false, not}
+use mathlib.Core.Bool.{Bool, true, false, true≢false, not, cond}
 use mathlib.Core.List.{List, [], _∷_}
 use mathlib.Core.Logic.{_↔_}
 use Prim.Native.Nat.{ℕ, zero, suc, _+_, _≤_}
 use native.Mathlib.Omega.{arith}
 use borrow.Author.Tests.{eqb-true, leb-true, le-leb}
 use lib.Dec.{eqb}
-use lib.ListN.{getD}
 use Rattle.sample.specs.declared.Depths.{Depths}
 use Rattle.sample.proofs.Choices.{both-true}
 use Rattle.refusal.specs.Rules.{Rule, rule, first}
 use Rattle.refusal.specs.declared.Check.the-variants.{Passed}
 use Rattle.refusal.proofs.RuleLaws.{passed-over}
 use Rattle.setting.specs.Agreement.{bonded, keeps, answers}
-use Rattle.setting.specs.Matrix.{changedPlaces, ycgco, matrices, matrixOf}
+use Rattle.setting.specs.Matrix.{changedPlaces, ycgcoR, ycgcoRe, ycgcoRo, matrices, matrixOf}
 use Rattle.setting.specs.Rules.{standing, entryOf, entry, depths, settingRules}
 use Rattle.setting.specs.declared.Call.{Call}
 use Rattle.setting.specs.declared.Call.the-variants.{Convert, ImageCheck}
@@ -24,11 +23,13 @@ use Rattle.setting.specs.declared.Way.the-variants.{Forward}
 use Rattle.setting.specs.declared.matrix.Bond.{Bond}
 use Rattle.setting.specs.declared.matrix.Bond.the-variants.{Bits}
 use Rattle.setting.specs.declared.matrix.Entry.{Entry}
+use Rattle.setting.specs.declared.matrix.Lossless.{Lossless}
 use Rattle.setting.specs.declared.matrix.Lossless.the-variants.{From, Never}
 use Rattle.setting.specs.declared.matrix.Matrix.{Matrix}
 use Rattle.setting.specs.declared.matrix.Matrix.the-variants as matrix
 use Rattle.setting.proofs.ReadyLaws.{rule-11, bonded-so, deeper}
-use Rattle.promises.specs.Lossless.{Listed, code-0, code-8, code-15, code-16}
+use Rattle.setting.proofs.Table.{Each, at-code}
+use Rattle.promises.specs.Lossless.{Listed, change-places, ycgco-r, ycgco-re, ycgco-ro}
 
 -- ---- of the rules on a setting rule 11 alone asks for the call
 
@@ -78,50 +79,43 @@ module _ (s : Setting) (e : first (settingRules ImageCheck s) ≡ Passed) where
         most = deeper ImageCheck s e .1;
       }
 
-  -- each kind of entry: one that is never lossless keeps nothing, and code 8 keeps all where chroma has its one bit more
-  listed-0 : s .matrix ≡ 0 → Left (matrix.Served changedPlaces) → Listed s
-  listed-0 q l = code-0 q
+  -- so it is on the list, whichever the table has for the code: one that is never lossless keeps nothing, and YCgCo keeps all where chroma
+  -- has its one bit more
+  abbrev On : Matrix → Type 0
+  On m = matrixOf (s .matrix) ≡ m → Left m → Listed s
 
-  listed-8 : s .matrix ≡ 8 → Left (matrix.Served (ycgco 0 1)) → Listed s
-  listed-8 q l =
+  on-places : On (matrix.Served changedPlaces)
+  on-places q l = change-places q
+
+  on-r : On (matrix.Served ycgcoR)
+  on-r q l =
       let b = eqb-true (d .luma .0) (d .rgb .0 + 0) (both-true (eqb (d .luma .0) (d .rgb .0 + 0)) _ (l .bound) .0) in
       let k = leb-true (d .rgb .0 + 1) (d .chroma .0) (l .kept) in
-      code-8 q (omega (arith, b, k, l .most))
+      ycgco-r q (omega (arith, b, k, l .most))
 
-  listed-15 : s .matrix ≡ 15 → Left (matrix.Served (ycgco 2 0)) → Listed s
-  listed-15 q l = code-15 q
+  on-re : On (matrix.Served ycgcoRe)
+  on-re q l = ycgco-re q
 
-  listed-16 : s .matrix ≡ 16 → Left (matrix.Served (ycgco 1 0)) → Listed s
-  listed-16 q l = code-16 q
+  on-ro : On (matrix.Served ycgcoRo)
+  on-ro q l = ycgco-ro q
 
-  no-lossy : (n : ℕ) (x : Entry) → x .lossless ≡ Never → s .matrix ≡ n → Left (matrix.Served x) → Listed s
-  no-lossy n x v q l = absurd (true≢false (sym (subst (λ k. keeps k d ≡ true) v (l .kept))))
+  no-lossy : (x : Entry) → x .lossless ≡ Never → On (matrix.Served x)
+  no-lossy x v q l = absurd (true≢false (sym (subst (λ k. keeps k d ≡ true) v (l .kept))))
 
-  no-reserved : (n : ℕ) → s .matrix ≡ n → Left matrix.Reserved → Listed s
-  no-reserved n q l = absurd (true≢false (l .not-reserved))
+  no-reserved : On matrix.Reserved
+  no-reserved q l = absurd (true≢false (l .not-reserved))
 
-  no-unspecified : (n : ℕ) → s .matrix ≡ n → Left matrix.Unspecified → Listed s
-  no-unspecified n q l = absurd (true≢false (l .not-unspecified))
+  no-unspecified : On matrix.Unspecified
+  no-unspecified q l = absurd (true≢false (l .not-unspecified))
 
-  no-unserved : (n : ℕ) → s .matrix ≡ n → Left matrix.Unserved → Listed s
-  no-unserved n q l = absurd (true≢false (l .not-unserved))
+  no-unserved : On matrix.Unserved
+  no-unserved q l = absurd (true≢false (l .not-unserved))
 
-  -- so of every row of the table, and of a code after its end
-  abbrev Rows : ℕ → List Matrix → Type 0
-  Rows n [] = Unit
-  Rows n (m ∷ ms) = (s .matrix ≡ n → Left m → Listed s) × Rows (suc n) ms
-
-  rows : Rows 0 matrices
-  rows = (listed-0, (no-lossy _ _ refl, (no-unspecified _, (no-reserved _, (no-lossy _ _ refl, (no-lossy _ _ refl, (no-lossy _ _ refl, (no-lossy _ _ refl, (listed-8, (no-lossy _ _ refl, (no-unserved _, (no-unserved _, (no-unserved _, (no-unserved _, (no-unserved _, (listed-15, (listed-16, tt)))))))))))))))))
-
-  at-row : (ms : List Matrix) (n k : ℕ) → s .matrix ≡ n + k → Rows n ms → Left (getD ms k matrix.Reserved) → Listed s
-  at-row [] n k q r l = no-reserved (n + k) q l
-  at-row (m ∷ ms) n zero q r l = r .0 (omega arith) l
-  at-row (m ∷ ms) n (suc k) q r l = at-row ms (suc n) k (omega arith) (r .1) l
+  each : Each On matrices
+  each = search (on-places, on-r, on-re, on-ro, no-lossy, no-reserved, no-unspecified, no-unserved) depth 60
 
   listed : Listed s
-  unfolding matrixOf
-  listed = at-row matrices 0 (s .matrix) (omega arith) rows left
+  listed = at-code On no-reserved each (s .matrix) refl left
 
 -- ---- what is on the list and converted is taken by the image check
 
@@ -141,13 +135,33 @@ module _ (s : Setting) (e : first (settingRules (Convert Forward) s) ≡ Passed)
       (subst (λ k. keeps k (depths s) ≡ true) (sym (ap (λ y. y .lossless) q ∙ l)) (le-leb (depths s .rgb .0 + least) (depths s .chroma .0) h))
 
   pub taken : Listed s → first (settingRules ImageCheck s) ≡ Passed
-  unfolding matrixOf
-  taken (code-0 q) = keeps-all changedPlaces 0 0 (ap (λ n. entryOf (matrixOf n)) q) refl refl (λ b c. omega arith)
-  taken (code-8 q p) = keeps-all (ycgco 0 1) 0 1 (ap (λ n. entryOf (matrixOf n)) q) refl refl (λ b c. omega (arith, p))
-  taken (code-15 q) = keeps-all (ycgco 2 0) 2 1 (ap (λ n. entryOf (matrixOf n)) q) refl refl (λ b c. omega arith)
-  taken (code-16 q) = keeps-all (ycgco 1 0) 1 1 (ap (λ n. entryOf (matrixOf n)) q) refl refl (λ b c. omega arith)
+  taken (change-places q) = keeps-all changedPlaces 0 0 (ap entryOf q) refl refl (λ b c. omega arith)
+  taken (ycgco-r q p) = keeps-all ycgcoR 0 1 (ap entryOf q) refl refl (λ b c. omega (arith, p))
+  taken (ycgco-re q) = keeps-all ycgcoRe 2 1 (ap entryOf q) refl refl (λ b c. omega arith)
+  taken (ycgco-ro q) = keeps-all ycgcoRo 1 1 (ap entryOf q) refl refl (λ b c. omega arith)
 
 -- THE lossless settings: the image check takes a setting exactly if the forward call does and the setting is on the list
 pub lossless-exactly : (s : Setting)
     → (first (settingRules ImageCheck s) ≡ Passed) ↔ ((first (settingRules (Convert Forward) s) ≡ Passed) × Listed s)
 lossless-exactly s = (λ e. (converts-too Forward s e, listed s e), λ t. taken s (t .0) (t .1))
+
+-- ---- the list by its codes
+
+abbrev pub somewhere : Lossless → Bool
+somewhere (From n) = true
+somewhere Never = false
+
+abbrev pub withCode : ℕ → Matrix → List (ℕ × Entry) → List (ℕ × Entry)
+withCode n (matrix.Served e) rest = cond (somewhere (e .lossless)) ((n, e) ∷ rest) rest
+withCode n matrix.Unserved rest = rest
+withCode n matrix.Unspecified rest = rest
+withCode n matrix.Reserved rest = rest
+
+-- of so many codes from a number on, those whose matrix loses nothing at some depths, each with what it means
+abbrev pub losslessCodes : ℕ → ℕ → List (ℕ × Entry)
+losslessCodes n zero = []
+losslessCodes n (suc more) = withCode n (matrixOf n) (losslessCodes (suc n) more)
+
+pub lossless-codes : losslessCodes 0 256 ≡ (0, changedPlaces) ∷ (8, ycgcoR) ∷ (15, ycgcoRe) ∷ (16, ycgcoRo) ∷ []
+unfolding matrixOf
+lossless-codes = refl

@@ -1,13 +1,21 @@
--- The settings that the rules list as lossless, among those that are not refused.
+-- The settings that the rules list as lossless, among those that are not refused. A matrix is listed by what its code means; which code
+-- that is has its one home in the table of matrices.
 use mathlib.Core.Path.{_≡_}
 use Prim.Native.Nat.{_+_}
+use Rattle.setting.specs.Matrix.{changedPlaces, ycgcoR, ycgcoRe, ycgcoRo, matrixOf}
 use Rattle.setting.specs.declared.Setting.{Setting}
+use Rattle.setting.specs.declared.matrix.Entry.{Entry}
+use Rattle.setting.specs.declared.matrix.Matrix.the-variants.{Served}
+
+-- the setting's matrix code means this
+abbrev pub Means : Setting → Entry → Type 0
+Means s e = matrixOf (s .matrix) ≡ Served e
 
 pub data Listed (s : Setting) : Type 0 where
   -- planes change places
-  code-0 : s .matrix ≡ 0 → Listed s
+  change-places : Means s changedPlaces → Listed s
   -- YCgCo-R, where chroma has a bit more than luma
-  code-8 : s .matrix ≡ 8 → s .«c_depth» ≡ s .«y_depth» + 1 → Listed s
+  ycgco-r : Means s ycgcoR → s .«c_depth» ≡ s .«y_depth» + 1 → Listed s
   -- YCgCo-Re and YCgCo-Ro
-  code-15 : s .matrix ≡ 15 → Listed s
-  code-16 : s .matrix ≡ 16 → Listed s
+  ycgco-re : Means s ycgcoRe → Listed s
+  ycgco-ro : Means s ycgcoRo → Listed s

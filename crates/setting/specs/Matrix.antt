@@ -36,6 +36,17 @@ ycgco yBits chromaBits =
       metered = false;
     }
 
+-- YCgCo, which is YCgCo-R where chroma has a bit more than Y
+abbrev pub ycgcoR : Entry
+ycgcoR = ycgco 0 1
+
+-- YCgCo-Re, with an even number of bits more than RGB, and YCgCo-Ro, with an odd one
+abbrev pub ycgcoRe : Entry
+ycgcoRe = ycgco 2 0
+
+abbrev pub ycgcoRo : Entry
+ycgcoRo = ycgco 1 0
+
 -- a luma matrix by its KR and KB in ten-thousandths; KG is what is left of one
 abbrev pub lumaEntry : ℕ → ℕ → Entry
 lumaEntry kr kb =
@@ -48,7 +59,7 @@ lumaEntry kr kb =
       metered = true;
     }
 
--- codes 0 to 16 in their order
+-- from code 0 on, in their order
 abbrev pub matrices : List Matrix
 matrices =
     Served changedPlaces  -- 0
@@ -59,15 +70,15 @@ matrices =
     ∷ Served (lumaEntry 2990 1140)  -- 5
     ∷ Served (lumaEntry 2990 1140)  -- 6
     ∷ Served (lumaEntry 2120 870)  -- 7
-    ∷ Served (ycgco 0 1)  -- 8
+    ∷ Served ycgcoR  -- 8
     ∷ Served (lumaEntry 2627 593)  -- 9
     ∷ Unserved  -- 10
     ∷ Unserved  -- 11
     ∷ Unserved  -- 12
     ∷ Unserved  -- 13
     ∷ Unserved  -- 14
-    ∷ Served (ycgco 2 0)  -- 15
-    ∷ Served (ycgco 1 0)  -- 16
+    ∷ Served ycgcoRe  -- 15
+    ∷ Served ycgcoRo  -- 16
     ∷ []
 
 -- every code after them is reserved
