@@ -54,12 +54,12 @@ unfolding outPlane callAdmission first matrixOf labelled among depthsServed agre
 whole-frame = refl
 
 -- the same with a matrix that is reserved: every element is zeroed
-pub refused-frame : left (with 17 8 8 9 true true) input output ≡ (0 ∷ 0 ∷ 0 ∷ 0 ∷ []) ∷ (0 ∷ 0 ∷ 0 ∷ 0 ∷ []) ∷ (0 ∷ 0 ∷ 0 ∷ 0 ∷ []) ∷ []
+pub refused-frame : left (with 3 8 8 9 true true) input output ≡ (0 ∷ 0 ∷ 0 ∷ 0 ∷ []) ∷ (0 ∷ 0 ∷ 0 ∷ 0 ∷ []) ∷ (0 ∷ 0 ∷ 0 ∷ 0 ∷ []) ∷ []
 unfolding outPlane callAdmission first matrixOf labelled among depthsServed agree areDepths isDepth atMost sizeOutside outside someLayout layoutShort anyShort badSample firstPlace placeInRow placeIf firstOf orFound tab
 refused-frame = refl
 
 -- a setting that is refused is, whatever the sizes are
-pub setting-before-sizes : frameAnswer Forward (with 17 8 8 9 true true) (picture 0 0 0 [] [] []) (layout 0 0 0 0) ≡ Refused (numbered 1)
+pub setting-before-sizes : frameAnswer Forward (with 3 8 8 9 true true) (picture 0 0 0 [] [] []) (layout 0 0 0 0) ≡ Refused (numbered 1)
 unfolding frameAnswer callAdmission first matrixOf
 setting-before-sizes = refl
 
@@ -115,7 +115,7 @@ pub padding-kept : element 0 2 (left setting input output) ≡ 9 → ⊥
 padding-kept e = omega (arith, e, ap (element 0 2) whole-frame)
 
 -- leaves the planes alone on a refusal
-pub left-on-refusal : element 0 0 (left (with 17 8 8 9 true true) input output) ≡ 9 → ⊥
+pub left-on-refusal : element 0 0 (left (with 3 8 8 9 true true) input output) ≡ 9 → ⊥
 left-on-refusal e = omega (arith, e, ap (element 0 0) refused-frame)
 
 -- only the first row converted
