@@ -53,7 +53,7 @@ pub fn meaning(n: u8) {
             b"this matrix code is reserved and means nothing yet; use the code of your material",
         ),
         2 => say(b"the matrix is unspecified; name the real one"),
-        3 => say(b"this matrix (10 to 14) is known but not served; choose another or another box"),
+        3 => say(b"this matrix is known but not served; choose another or another box"),
         4 => say(b"this primaries code is reserved; correct the label"),
         5 => say(b"this transfer code is reserved; correct the label"),
         6 => say(b"a depth is outside 8 to 16 bits, or above 12 with a luma matrix"),
