@@ -1,5 +1,7 @@
 //! What H.273 has assigned, left unspecified and reserved.
 
+use super::matrix::{matrix_of, Matrix};
+
 #[derive(Clone, Copy, Debug, PartialEq, Eq)]
 pub enum Label {
     Assigned,
@@ -24,9 +26,9 @@ pub fn transfer_label(code: u8) -> Label {
 }
 
 pub fn matrix_label(code: u8) -> Label {
-    match code {
-        0 | 1 | 4..=16 => Label::Assigned,
-        2 => Label::Unspecified,
-        _ => Label::Reserved,
+    match matrix_of(code) {
+        Matrix::Unspecified => Label::Unspecified,
+        Matrix::Reserved => Label::Reserved,
+        _ => Label::Assigned,
     }
 }

@@ -1,7 +1,8 @@
 //! The luma matrices: levels, their weights, and how a level is written.
 
+use super::matrix::luma_weights;
 use super::numbers::{half_scale, max_value, Numbers, Unrounded};
-use super::setting::{luma_weights, Setting};
+use super::setting::Setting;
 use crate::fraction::Fraction;
 
 /// Which of the two level scales a plane has.

@@ -1,6 +1,7 @@
 //! Calls on one pixel, and which formulas a setting has.
 
 use super::luma::{luma_forward, luma_reverse};
+use super::matrix::{matrix_of, Matrix};
 use super::numbers::{clip, within_depth, Numbers, Unrounded};
 use super::refusals::{pixel_refusal, require_lossless, setting_refusal, Refusal};
 use super::setting::{is_lossless, output_depths, source_depths, ycc_depths, Pixel, Setting, Way};
@@ -36,19 +37,18 @@ fn finished(three: [Unrounded; 3], depths: [u8; 3]) -> Numbers {
 /// What the formulas with a Round in them hand to it; none for the others.
 pub fn unrounded(s: &Setting, way: Way, pixel: Pixel) -> Option<[Unrounded; 3]> {
     let from = pixel.map(i128::from);
-    match (s.matrix, way) {
-        (0 | 15 | 16, _) => None,
-        (8, Way::Forward) if !is_lossless(s) => Some(lossy_ycgco_forward(s, from)),
-        (8, _) => None,
-        (_, Way::Forward) => Some(luma_forward(s, from)),
-        (_, Way::Reverse) => Some(luma_reverse(s, from)),
+    match (matrix_of(s.matrix), way) {
+        (Matrix::Luma(..), Way::Forward) => Some(luma_forward(s, from)),
+        (Matrix::Luma(..), Way::Reverse) => Some(luma_reverse(s, from)),
+        (Matrix::YCgCo, Way::Forward) if !is_lossless(s) => Some(lossy_ycgco_forward(s, from)),
+        _ => None,
     }
 }
 
 fn without_round(s: &Setting, way: Way, from: Numbers) -> Numbers {
-    match (s.matrix, way) {
-        (0, Way::Forward) => identity_forward(from),
-        (0, Way::Reverse) => identity_reverse(from),
+    match (matrix_of(s.matrix), way) {
+        (Matrix::Identity, Way::Forward) => identity_forward(from),
+        (Matrix::Identity, Way::Reverse) => identity_reverse(from),
         (_, Way::Forward) => lossless_ycgco_forward(s, from),
         (_, Way::Reverse) if is_lossless(s) => lossless_ycgco_reverse(s, from),
         (_, Way::Reverse) => lossy_ycgco_reverse(s, from),
@@ -77,8 +77,8 @@ pub fn pixel_has_source(s: &Setting, ycc: Pixel) -> Result<bool, Refusal> {
 /// depth, and the forward formulas themselves have to lead from it to `ycc`.
 pub fn has_source(s: &Setting, ycc: Pixel) -> bool {
     let wanted = ycc.map(i128::from);
-    let candidate = match s.matrix {
-        0 => identity_reverse(wanted),
+    let candidate = match matrix_of(s.matrix) {
+        Matrix::Identity => identity_reverse(wanted),
         _ => solved_lossless_ycgco(s, wanted),
     };
     let inside = candidate.iter().all(|&v| within_depth(v, s.rgb_depth));

@@ -1,9 +1,10 @@
 //! The rows of the refusal table that need no picture: 1 to 7, 11, and 10 for
 //! single pixels and samples.
 
-use super::labels::{matrix_label, primaries_label, transfer_label, Label};
+use super::labels::{primaries_label, transfer_label, Label};
+use super::matrix::{luma_weights, matrix_of, Matrix};
 use super::numbers::within_depth;
-use super::setting::{is_lossless, luma_weights, Pixel, Setting};
+use super::setting::{is_lossless, Pixel, Setting};
 
 #[derive(Clone, Copy, Debug, PartialEq, Eq)]
 pub struct Place {
@@ -22,10 +23,11 @@ pub enum Refusal {
 
 /// Refusals 1 to 7: the first row that holds decides.
 pub fn setting_refusal(s: &Setting) -> Result<(), Refusal> {
+    let matrix = matrix_of(s.matrix);
     let rows = [
-        (1, matrix_label(s.matrix) == Label::Reserved),
-        (2, s.matrix == 2),
-        (3, (10..=14).contains(&s.matrix)),
+        (1, matrix == Matrix::Reserved),
+        (2, matrix == Matrix::Unspecified),
+        (3, matrix == Matrix::NotServed),
         (4, primaries_label(s.primaries) == Label::Reserved),
         (5, transfer_label(s.transfer) == Label::Reserved),
         (6, depth_not_served(s)),
@@ -53,11 +55,11 @@ fn depths_and_flags_agree(s: &Setting) -> bool {
     let y = i32::from(s.y_depth);
     let c = i32::from(s.c_depth);
     let same_flags = s.rgb_full == s.ycc_full;
-    match s.matrix {
-        0 => rgb == y && y == c && same_flags,
-        8 => rgb == y && (c == y || c == y + 1) && same_flags,
-        15 => y == c && y == rgb + 2 && same_flags,
-        16 => y == c && y == rgb + 1 && same_flags,
+    match matrix_of(s.matrix) {
+        Matrix::Identity => rgb == y && y == c && same_flags,
+        Matrix::YCgCo => rgb == y && (c == y || c == y + 1) && same_flags,
+        Matrix::YCgCoRe => y == c && y == rgb + 2 && same_flags,
+        Matrix::YCgCoRo => y == c && y == rgb + 1 && same_flags,
         _ => c == y,
     }
 }

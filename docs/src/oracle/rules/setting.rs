@@ -1,4 +1,6 @@
-//! A setting, and what its matrix code and its depths say.
+//! A setting, and what its matrix and its depths say.
+
+use super::matrix::{matrix_of, Matrix};
 
 /// Three samples of one place: R, G, B on one side and Y, Cb, Cr on the other.
 pub type Pixel = [u16; 3];
@@ -22,23 +24,11 @@ pub enum Way {
     Reverse,
 }
 
-/// KR and KB in ten-thousandths, for a luma matrix only.
-pub fn luma_weights(matrix: u8) -> Option<(i128, i128)> {
-    match matrix {
-        1 => Some((2126, 722)),
-        4 => Some((3000, 1100)),
-        5 | 6 => Some((2990, 1140)),
-        7 => Some((2120, 870)),
-        9 => Some((2627, 593)),
-        _ => None,
-    }
-}
-
 /// Asked of accepted settings only.
 pub fn is_lossless(s: &Setting) -> bool {
-    match s.matrix {
-        0 | 15 | 16 => true,
-        8 => i32::from(s.c_depth) == i32::from(s.y_depth) + 1,
+    match matrix_of(s.matrix) {
+        Matrix::Identity | Matrix::YCgCoRe | Matrix::YCgCoRo => true,
+        Matrix::YCgCo => i32::from(s.c_depth) == i32::from(s.y_depth) + 1,
         _ => false,
     }
 }
