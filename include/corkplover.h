@@ -32,8 +32,11 @@
  *   1, 4, 5, 6, 7, 9   luma matrices: depths 8 to 12, c_depth = y_depth, everything else free
  *   0                  the planes change places: three equal depths 8 to 16, equal flags. Lossless.
  *   8                  YCgCo: rgb_depth = y_depth, equal flags. With c_depth = y_depth it is lossy, with one bit more lossless.
- *   15                 YCgCo: y_depth = c_depth = rgb_depth + 2, equal flags. Lossless.
- *   16                 YCgCo: y_depth = c_depth = rgb_depth + 1, equal flags. Lossless.
+ *   16                 YCgCo-Re: y_depth = c_depth = rgb_depth + 2, equal flags. Lossless.
+ *   17                 YCgCo-Ro: y_depth = c_depth = rgb_depth + 1, equal flags. Lossless.
+ *
+ * Codes are numbered as in the published third edition of H.273. Its draft had YCgCo-Re at 15 and YCgCo-Ro at 16: with those numbers
+ * and these depths a setting is refused, by 3 and by 7.
  *
  * A depth is the number of bits in use. Samples of depth d are 0 to 2^d - 1, and stand in the low bits of a uint16_t. The flags
  * say for each side whether it is full range (true) or narrow (false).
@@ -106,9 +109,9 @@ static inline cork_source cork_read_back(cork_output output)
  */
 typedef enum cork_refusal {
     CORK_ACCEPTED = 0,
-    CORK_MATRIX_RESERVED = 1,      /* the matrix is 3 or 17 to 255 */
+    CORK_MATRIX_RESERVED = 1,      /* the matrix is 3 or 18 to 255 */
     CORK_MATRIX_UNSPECIFIED = 2,   /* the matrix is 2, which names none */
-    CORK_MATRIX_NOT_SERVED = 3,    /* the matrix is 10 to 14 */
+    CORK_MATRIX_NOT_SERVED = 3,    /* the matrix is 10 to 15 */
     CORK_PRIMARIES_RESERVED = 4,   /* the primaries are not 1, 2, 4 to 12 or 22 */
     CORK_TRANSFER_RESERVED = 5,    /* the transfer is not 1, 2 or 4 to 18 */
     CORK_DEPTH_NOT_SERVED = 6,     /* a depth is outside 8 to 16, or outside 8 to 12 with a luma matrix */

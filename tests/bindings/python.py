@@ -64,7 +64,7 @@ class Answers(unittest.TestCase):
         self.assertEqual(cork.meter_pixel(NARROW, (235, 240, 16)), (1.0, 0.5, -0.5))
 
     def test_labels_and_texts(self):
-        labels = cork.primaries_label(22), cork.transfer_label(2), cork.matrix_label(17)
+        labels = cork.primaries_label(22), cork.transfer_label(2), cork.matrix_label(18)
         self.assertEqual(labels, (cork.ASSIGNED, cork.UNSPECIFIED, cork.RESERVED))
         self.assertEqual(cork.refusal_text(9), "a plane is too short for the picture")
         self.assertEqual(cork.refusal_text(12), "not a refusal number")

@@ -65,7 +65,7 @@ fn meters() {
 
 #[test]
 fn labels_and_texts() {
-    assert_eq!((primaries_label(22), transfer_label(2), matrix_label(17)), (Label::Assigned, Label::Unspecified, Label::Reserved));
+    assert_eq!((primaries_label(22), transfer_label(2), matrix_label(18)), (Label::Assigned, Label::Unspecified, Label::Reserved));
     assert_eq!(refusal_text(9), "a plane is too short for the picture");
     assert_eq!(refusal_text(12), "not a refusal number");
 }

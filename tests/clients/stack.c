@@ -10,8 +10,8 @@ static unsigned char stack[STACK];
 static ucontext_t here, there;
 static const cork_setting SETTINGS[] = {
     {1, 1, 0, 8, 8, 8, true, true},     {1, 1, 1, 8, 8, 8, true, true},   {1, 1, 9, 12, 10, 10, false, true},
-    {1, 1, 8, 8, 8, 8, false, false},   {1, 1, 8, 8, 8, 9, true, true},   {1, 1, 15, 10, 12, 12, true, true},
-    {1, 1, 16, 15, 16, 16, true, true}, {1, 1, 255, 8, 8, 8, true, true},
+    {1, 1, 8, 8, 8, 8, false, false},   {1, 1, 8, 8, 8, 9, true, true},   {1, 1, 16, 10, 12, 12, true, true},
+    {1, 1, 17, 15, 16, 16, true, true}, {1, 1, 255, 8, 8, 8, true, true},
 };
 enum { COUNT = sizeof SETTINGS / sizeof *SETTINGS };
 

@@ -162,6 +162,6 @@ abbrev pub losslessCodes : ℕ → ℕ → List (ℕ × Entry)
 losslessCodes n zero = []
 losslessCodes n (suc more) = withCode n (matrixOf n) (losslessCodes (suc n) more)
 
-pub lossless-codes : losslessCodes 0 256 ≡ (0, changedPlaces) ∷ (8, ycgcoR) ∷ (15, ycgcoRe) ∷ (16, ycgcoRo) ∷ []
+pub lossless-codes : losslessCodes 0 256 ≡ (0, changedPlaces) ∷ (8, ycgcoR) ∷ (16, ycgcoRe) ∷ (17, ycgcoRo) ∷ []
 unfolding matrixOf
 lossless-codes = refl

@@ -48,7 +48,7 @@ rows =
     ∷ row Forward (with 8 8 8 9 true true) (pixel 0 255 0) (pixel 127 511 256)
     ∷ row Forward (with 8 8 8 9 true true) (pixel 0 0 255) (pixel 63 129 1)
     ∷ row Reverse (with 8 8 8 9 true true) (pixel 63 129 511) (pixel 255 0 0)
-    ∷ row Forward (with 15 8 10 10 true true) (pixel 255 0 0) (pixel 63 385 767)
+    ∷ row Forward (with 16 8 10 10 true true) (pixel 255 0 0) (pixel 63 385 767)
     ∷ row Forward (with 8 8 8 8 true true) (pixel 0 255 0) (pixel 128 255 128)
     ∷ row Reverse (with 8 8 8 8 true true) (pixel 128 255 128) (pixel 1 255 1)
     ∷ row Forward (with 1 8 8 8 true true) (pixel 0 0 255) (pixel 18 255 116)

@@ -35,7 +35,7 @@ pub transfer-edges : labels (λ n. labelNumber (transferLabel n)) (0 ∷ 1 ∷ 2
 unfolding labelled among
 transfer-edges = refl
 
-pub matrix-edges : labels (λ n. labelNumber (matrixLabel n)) (0 ∷ 1 ∷ 2 ∷ 3 ∷ 4 ∷ 14 ∷ 16 ∷ 17 ∷ 255 ∷ []) ≡ 0 ∷ 0 ∷ 1 ∷ 2 ∷ 0 ∷ 0 ∷ 0 ∷ 2 ∷ 2 ∷ []
+pub matrix-edges : labels (λ n. labelNumber (matrixLabel n)) (0 ∷ 1 ∷ 2 ∷ 3 ∷ 4 ∷ 15 ∷ 17 ∷ 18 ∷ 255 ∷ []) ≡ 0 ∷ 0 ∷ 1 ∷ 2 ∷ 0 ∷ 0 ∷ 0 ∷ 2 ∷ 2 ∷ []
 unfolding matrixOf
 matrix-edges = refl
 

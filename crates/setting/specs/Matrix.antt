@@ -1,4 +1,4 @@
--- H.273's table 4: the matrix of each code, as an entry of data.
+-- H.273's table 4: the matrix of each code, as an entry of data. Codes have the numbers of the published third edition.
 use mathlib.Core.Bool.{true, false}
 use mathlib.Core.List.{List, [], _∷_}
 use Prim.Native.Nat.{ℕ}
@@ -77,8 +77,9 @@ matrices =
     ∷ Unserved  -- 12
     ∷ Unserved  -- 13
     ∷ Unserved  -- 14
-    ∷ Served ycgcoRe  -- 15
-    ∷ Served ycgcoRo  -- 16
+    ∷ Unserved  -- 15
+    ∷ Served ycgcoRe  -- 16
+    ∷ Served ycgcoRo  -- 17
     ∷ []
 
 -- every code after them is reserved

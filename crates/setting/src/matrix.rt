@@ -104,10 +104,10 @@ pub(crate) fn matrix_of(code: u8) -> Matrix
         7 => Matrix::Served(luma(2120, 870)),
         9 => Matrix::Served(luma(2627, 593)),
         8 => Matrix::Served(ycgco(0, 1)),
-        15 => Matrix::Served(ycgco(2, 0)),
-        16 => Matrix::Served(ycgco(1, 0)),
-        10..=14 => Matrix::Unserved,
+        16 => Matrix::Served(ycgco(2, 0)),
+        17 => Matrix::Served(ycgco(1, 0)),
+        10..=15 => Matrix::Unserved,
         2 => Matrix::Unspecified,
-        3 | 17..=255 => Matrix::Reserved,
+        3 | 18..=255 => Matrix::Reserved,
     }
 }

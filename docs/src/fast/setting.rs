@@ -72,9 +72,9 @@ impl Setting {
             5 | 6 => luma(2990, 1140),
             7 => luma(2120, 870),
             8 if self.c_depth == self.y_depth => Ok(Formulas::Lossy),
-            8 | 15 | 16 => Ok(Formulas::Lossless),
+            8 | 16 | 17 => Ok(Formulas::Lossless),
             9 => luma(2627, 593),
-            10..=14 => Err(3),
+            10..=15 => Err(3),
             _ => Err(1),
         }
     }
@@ -84,8 +84,8 @@ impl Setting {
         let fits = match self.matrix {
             0 => rgb == y && y == c,
             8 => rgb == y && (c == y || c == y + 1),
-            15 => y == rgb + 2 && c == y,
-            16 => y == rgb + 1 && c == y,
+            16 => y == rgb + 2 && c == y,
+            17 => y == rgb + 1 && c == y,
             _ => return c == y,
         };
         fits && self.rgb_full == self.ycc_full

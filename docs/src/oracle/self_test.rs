@@ -70,7 +70,7 @@ const FRAME_ANSWERS: [&str; 16] = [
 
 /// The four lossless forms at an RGB depth, which need not be a served one.
 fn lossless_forms(depth: u8) -> [Setting; 4] {
-    [(0, 0, 0), (8, 0, 1), (15, 2, 2), (16, 1, 1)].map(|(matrix, more_y, more_c)| Setting {
+    [(0, 0, 0), (8, 0, 1), (16, 2, 2), (17, 1, 1)].map(|(matrix, more_y, more_c)| Setting {
         primaries: 1,
         transfer: 1,
         matrix,
@@ -173,7 +173,7 @@ impl Test {
     fn labels(&mut self) -> Checked {
         let primaries = |n: u32| n == 1 || (4..=12).contains(&n) || n == 22;
         let transfer = |n: u32| n == 1 || (4..=18).contains(&n);
-        let matrix = |n: u32| n == 0 || n == 1 || (4..=16).contains(&n);
+        let matrix = |n: u32| n == 0 || n == 1 || (4..=17).contains(&n);
         let kinds: [(char, fn(u32) -> bool); 3] =
             [('p', primaries), ('t', transfer), ('x', matrix)];
         for (letter, assigned) in kinds {

@@ -18,8 +18,8 @@ pub const KINDS: [Kind; 11] = [
     (8, false),
     (8, true),
     (9, false),
-    (15, true),
     (16, true),
+    (17, true),
 ];
 
 pub const LUMA_CODES: [u8; 6] = [1, 4, 5, 6, 7, 9];

@@ -15,8 +15,8 @@ pub const PIXELS: [Line; 22] = [
     ("f 1 1 8 8 8 9 1 1 0 0 255", "samples 63 129 1"),
     ("r 1 1 8 8 8 9 0 0 63 129 511", "samples 255 0 0"),
     ("r 1 1 8 8 8 9 1 1 63 129 511", "samples 255 0 0"),
-    ("f 1 1 15 8 10 10 0 0 255 0 0", "samples 63 385 767"),
-    ("f 1 1 15 8 10 10 1 1 255 0 0", "samples 63 385 767"),
+    ("f 1 1 16 8 10 10 0 0 255 0 0", "samples 63 385 767"),
+    ("f 1 1 16 8 10 10 1 1 255 0 0", "samples 63 385 767"),
     ("f 1 1 8 8 8 8 0 0 0 255 0", "samples 128 255 128"),
     ("f 1 1 8 8 8 8 1 1 0 255 0", "samples 128 255 128"),
     ("r 1 1 8 8 8 8 1 1 128 255 128", "samples 1 255 1"),
@@ -25,14 +25,14 @@ pub const PIXELS: [Line; 22] = [
     ("f 1 1 1 8 8 8 1 0 0 0 255", "samples 32 240 118"),
     ("f 1 1 1 10 8 8 0 0 1023 1023 1023", "samples 255 128 128"),
     ("f 1 1 9 8 8 8 1 1 128 128 128", "samples 128 128 128"),
-    ("f 1 1 16 8 9 9 0 0 255 0 0", "samples 63 129 511"),
-    ("f 1 1 16 8 9 9 1 1 255 0 0", "samples 63 129 511"),
+    ("f 1 1 17 8 9 9 0 0 255 0 0", "samples 63 129 511"),
+    ("f 1 1 17 8 9 9 1 1 255 0 0", "samples 63 129 511"),
     ("s 1 1 8 8 8 9 1 1 63 129 511", "yes"),
     ("s 1 1 8 8 8 9 1 1 0 256 511", "none"),
 ];
 
 /// The edges, and the meter values.
-pub const EDGES: [Line; 16] = [
+pub const EDGES: [Line; 18] = [
     ("f 1 1 8 8 8 8 1 1 0 0 0", "samples 0 128 128"),
     ("f 1 1 8 7 7 7 1 1 0 0 0", "refused 6"),
     ("f 1 1 1 12 12 12 1 1 0 0 0", "samples 0 2048 2048"),
@@ -41,9 +41,12 @@ pub const EDGES: [Line; 16] = [
     ("f 1 1 1 12 12 13 1 1 0 0 0", "refused 6"),
     ("f 1 1 8 15 15 16 1 1 0 0 0", "samples 0 32768 32768"),
     ("f 1 1 8 16 16 17 1 1 0 0 0", "refused 6"),
-    ("f 1 1 16 16 16 16 1 1 0 0 0", "refused 7"),
-    ("f 1 1 16 15 16 16 1 1 0 0 0", "samples 0 32768 32768"),
-    ("f 1 1 17 15 16 16 1 1 0 0 0", "refused 1"),
+    ("f 1 1 17 16 16 16 1 1 0 0 0", "refused 7"),
+    ("f 1 1 17 15 16 16 1 1 0 0 0", "samples 0 32768 32768"),
+    ("f 1 1 18 15 16 16 1 1 0 0 0", "refused 1"),
+    // The draft's numbers of YCgCo-Re and YCgCo-Ro, each with its depths.
+    ("f 1 1 15 8 10 10 1 1 255 0 0", "refused 3"),
+    ("f 1 1 16 8 9 9 1 1 255 0 0", "refused 7"),
     ("f 1 1 3 99 99 99 1 1 0 0 0", "refused 1"),
     ("y 1 1 1 8 8 8 0 0 235", "level 3f800000"),
     ("y 1 1 1 8 8 8 0 0 16", "level 00000000"),
@@ -58,7 +61,7 @@ pub const EDGES: [Line; 16] = [
 pub const REFUSALS: [Line; 14] = [
     ("f 1 1 2 8 8 8 1 1 0 0 0", "refused 2"),
     ("f 1 1 10 8 8 8 1 1 0 0 0", "refused 3"),
-    ("f 1 1 14 8 8 8 1 1 0 0 0", "refused 3"),
+    ("f 1 1 15 8 8 8 1 1 0 0 0", "refused 3"),
     ("f 3 1 1 8 8 8 1 1 0 0 0", "refused 4"),
     ("f 1 3 1 8 8 8 1 1 0 0 0", "refused 5"),
     ("f 1 1 1 8 8 9 1 1 0 0 0", "refused 7"),
@@ -89,7 +92,7 @@ pub const REFUSALS: [Line; 14] = [
 /// A source check that breaks every row is mended one row after the other:
 /// the answers go down the table.
 pub const PIXEL_ORDER: [Line; 10] = [
-    ("s 0 0 17 99 8 9 0 1 65535 0 0", "refused 1"),
+    ("s 0 0 18 99 8 9 0 1 65535 0 0", "refused 1"),
     ("s 0 0 2 99 8 9 0 1 65535 0 0", "refused 2"),
     ("s 0 0 12 99 8 9 0 1 65535 0 0", "refused 3"),
     ("s 0 0 8 99 8 9 0 1 65535 0 0", "refused 4"),

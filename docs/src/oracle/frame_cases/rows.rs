@@ -8,9 +8,9 @@ use crate::settings::{self, KINDS};
 impl Cases {
     fn break_setting(&mut self, s: &mut Setting, row: u8) {
         match row {
-            1 => s.matrix = self.random.pick(&[3, 17, 18, 128, 255]),
+            1 => s.matrix = self.random.pick(&[3, 18, 19, 128, 255]),
             2 => s.matrix = 2,
-            3 => s.matrix = self.random.pick(&[10, 11, 12, 13, 14]),
+            3 => s.matrix = self.random.pick(&[10, 11, 12, 13, 14, 15]),
             _ => settings::break_row(&mut self.random, s, row),
         }
     }

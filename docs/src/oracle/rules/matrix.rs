@@ -1,5 +1,5 @@
 //! What each matrix code means. The codes' numbers stand in this table and
-//! nowhere else in the rules.
+//! nowhere else in the rules; they are those of the published third edition.
 
 #[derive(Clone, Copy, Debug, PartialEq, Eq)]
 pub enum Matrix {
@@ -27,10 +27,10 @@ pub fn matrix_of(code: u8) -> Matrix {
         7 => Matrix::Luma(2120, 870),
         8 => Matrix::YCgCo,
         9 => Matrix::Luma(2627, 593),
-        10..=14 => Matrix::NotServed,
-        15 => Matrix::YCgCoRe,
-        16 => Matrix::YCgCoRo,
-        3 | 17..=255 => Matrix::Reserved,
+        10..=15 => Matrix::NotServed,
+        16 => Matrix::YCgCoRe,
+        17 => Matrix::YCgCoRo,
+        3 | 18..=255 => Matrix::Reserved,
     }
 }
 
