@@ -11,7 +11,7 @@ pub enum Matrix {
     YCgCo,
     YCgCoRe,
     YCgCoRo,
-    /// Known, but not to this box.
+    /// Known, and not served.
     NotServed,
     Unspecified,
     Reserved,
