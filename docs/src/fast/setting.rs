@@ -44,7 +44,7 @@ impl Setting {
     }
 
     pub fn formulas(&self) -> Result<Formulas, Refusal> {
-        let formulas = self.by_matrix().map_err(Refusal::Number)?;
+        let (formulas, agrees) = self.by_matrix().map_err(Refusal::Number)?;
         if !matches!(self.primaries, 1 | 2 | 4..=12 | 22) {
             return Err(Refusal::Number(4));
         }
@@ -55,39 +55,33 @@ impl Setting {
         if [self.rgb_depth, self.y_depth, self.c_depth].iter().any(|d| !(8..=deepest).contains(d)) {
             return Err(Refusal::Number(6));
         }
-        if self.agrees() {
+        if agrees {
             Ok(formulas)
         } else {
             Err(Refusal::Number(7))
         }
     }
 
-    fn by_matrix(&self) -> Result<Formulas, u8> {
-        let luma = |kr, kb| Ok(Formulas::Luma { kr, kb });
+    /// What the matrix code stands for, and whether depths and flags agree with it; or a refusal.
+    fn by_matrix(&self) -> Result<(Formulas, bool), u8> {
+        let [rgb, y, c] = [self.rgb_depth, self.y_depth, self.c_depth].map(u32::from);
+        let equal_flags = self.rgb_full == self.ycc_full;
+        let luma = |kr, kb| Ok((Formulas::Luma { kr, kb }, c == y));
+        let deeper = |bits| Ok((Formulas::Lossless, y == rgb + bits && c == y && equal_flags));
         match self.matrix {
-            0 => Ok(Formulas::Swap),
+            0 => Ok((Formulas::Swap, rgb == y && y == c && equal_flags)),
             1 => luma(2126, 722),
             2 => Err(2),
             4 => luma(3000, 1100),
             5 | 6 => luma(2990, 1140),
             7 => luma(2120, 870),
-            8 if self.c_depth == self.y_depth => Ok(Formulas::Lossy),
-            8 | 16 | 17 => Ok(Formulas::Lossless),
+            8 if c == y => Ok((Formulas::Lossy, rgb == y && equal_flags)),
+            8 => Ok((Formulas::Lossless, rgb == y && c == y + 1 && equal_flags)),
             9 => luma(2627, 593),
             10..=15 => Err(3),
+            16 => deeper(2),
+            17 => deeper(1),
             _ => Err(1),
         }
-    }
-
-    fn agrees(&self) -> bool {
-        let (rgb, y, c) = (self.rgb_depth, self.y_depth, self.c_depth);
-        let fits = match self.matrix {
-            0 => rgb == y && y == c,
-            8 => rgb == y && (c == y || c == y + 1),
-            16 => y == rgb + 2 && c == y,
-            17 => y == rgb + 1 && c == y,
-            _ => return c == y,
-        };
-        fits && self.rgb_full == self.ycc_full
     }
 }
