@@ -1,5 +1,5 @@
-/* Converts a small picture to luma and chroma and back, asks the image check and the spot meter, and meets two refusals. `tools/run-example`
- * builds and runs it. */
+/* Converts a small picture to luma and chroma and back, asks the image check and the spot meter, reads an old label, and meets a few
+ * refusals. `tools/run-example` builds and runs it. */
 #include "corkplover.h"
 
 #include <stdio.h>
@@ -8,10 +8,13 @@
 enum { WIDTH = 4, HEIGHT = 2, STRIDE = 5, LENGTH = HEIGHT * STRIDE };
 
 /* Lossless YCgCo: RGB and Y with 8 bits, Cb and Cr with 9. Both sides are full range. */
-static const cork_setting LOSSLESS = {1, 13, 8, 8, 8, 9, true, true};
+static const cork_setting LOSSLESS = {1, 13, 8, 8, 8, 9, true, true, CORK_EDITION_PUBLISHED};
 
 /* BT.709 from 8-bit full-range RGB to 8-bit narrow luma and chroma. */
-static const cork_setting HD = {1, 1, 1, 8, 8, 8, true, false};
+static const cork_setting HD = {1, 1, 1, 8, 8, 8, true, false, CORK_EDITION_PUBLISHED};
+
+/* From an archive, with a label by the draft: its matrix 15 is YCgCo-Re, where Y, Cb and Cr have two bits more than RGB. */
+static const cork_setting ARCHIVE = {1, 13, 15, 8, 10, 10, true, true, CORK_EDITION_DRAFT};
 
 /* Red, green, blue, white; then a few greys and a brown. The fifth element of a row is padding: anything may stand there. */
 static const uint16_t R[LENGTH] = {255, 0, 0, 255, 999, 0, 64, 128, 150, 999};
@@ -40,6 +43,11 @@ static void print_refusal(const char *what, cork_answer answer)
         printf(": sample %u of plane %u, row %u, column %u", cork_bad_sample(answer), cork_plane(answer), cork_row(answer),
                cork_column(answer));
     printf("\n");
+}
+
+static void print_pixel(const char *what, cork_answer pixel)
+{
+    printf("%s: Y %u  Cb %u  Cr %u\n", what, cork_sample(pixel, 0), cork_sample(pixel, 1), cork_sample(pixel, 2));
 }
 
 static bool is_same_picture(const uint16_t *a, const uint16_t *b)
@@ -82,10 +90,21 @@ static void image_check(void)
 static void meter(void)
 {
     cork_answer pixel = cork_forward_pixel(HD, 255, 0, 0);
-    printf("red at BT.709, narrow: Y %u  Cb %u  Cr %u\n", cork_sample(pixel, 0), cork_sample(pixel, 1), cork_sample(pixel, 2));
+    print_pixel("red at BT.709, narrow", pixel);
     cork_levels levels = cork_meter_pixel(HD, cork_sample(pixel, 0), cork_sample(pixel, 1), cork_sample(pixel, 2));
     printf("its levels: %.6f  %.6f  %.6f\n", levels.y, levels.cb, levels.cr);
     print_refusal("the meter on a lossless setting", cork_meter_y(LOSSLESS, 63).answer);
+}
+
+/* One label in three editions: its own, one in which the code is another matrix, and none at all. */
+static void old_label(void)
+{
+    cork_setting published = ARCHIVE, forgotten = ARCHIVE;
+    published.edition = CORK_EDITION_PUBLISHED;
+    forgotten.edition = 0;
+    print_pixel("red by matrix 15 of the draft", cork_forward_pixel(ARCHIVE, 255, 0, 0));
+    print_refusal("matrix 15 of the published edition", cork_forward_pixel(published, 255, 0, 0));
+    print_refusal("matrix 15 without an edition", cork_forward_pixel(forgotten, 255, 0, 0));
 }
 
 static void bad_sample(void)
@@ -104,6 +123,7 @@ int main(void)
     there_and_back();
     image_check();
     meter();
+    old_label();
     bad_sample();
     return 0;
 }

@@ -4,8 +4,8 @@
  * the functions at the end whose names begin with corkplover_ are how the library is reached, and may change. Link with
  * libcorkplover.a. The library keeps no state, allocates nothing and may be called from any number of threads at once.
  *
- * What a call may be given. Any numbers at all: codes, depths, sizes, strides and samples that make no sense get a refusal with
- * a number and never a crash. What the caller owes the library, since no call can find out, is this:
+ * What a call may be given. Any numbers at all: editions, codes, depths, sizes, strides and samples that make no sense get a
+ * refusal with a number and never a crash. What the caller owes the library, since no call can find out, is this:
  *
  *   1. A plane's pointer and length tell the truth: that many elements may be read there, or written in an output plane. With
  *      length 0 the pointer still has to point somewhere: not null.
@@ -26,21 +26,40 @@
 
 /* ---- Settings ----
  *
- * primaries, transfer and matrix are code points. Primaries and transfer change no sample: they are looked at and a reserved one
- * is refused. The matrix picks the formulas:
+ * primaries, transfer and matrix are code points. edition is the text of H.273 that numbers them: name the one that the label of
+ * the material was written by.
+ *
+ *   CORK_EDITION_2021        for a label by the text of 2021
+ *   CORK_EDITION_DRAFT       for a label by the draft of the third edition
+ *   CORK_EDITION_PUBLISHED   for a label by the published third edition, and for the files of today
+ *
+ * Every other number is refused, and 0 is one of them: an initialiser that ends before the edition leaves it 0. So an edition that
+ * was forgotten shows, and none is ever guessed.
+ *
+ * Primaries and transfer change no sample: they are looked at and a reserved one is refused. The matrix picks the formulas:
  *
  *   1, 4, 5, 6, 7, 9   luma matrices: depths 8 to 12, c_depth = y_depth, everything else free
  *   0                  the planes change places: three equal depths 8 to 16, equal flags. Lossless.
  *   8                  YCgCo: rgb_depth = y_depth, equal flags. With c_depth = y_depth it is lossy, with one bit more lossless.
- *   16                 YCgCo-Re: y_depth = c_depth = rgb_depth + 2, equal flags. Lossless.
- *   17                 YCgCo-Ro: y_depth = c_depth = rgb_depth + 1, equal flags. Lossless.
+ *   YCgCo-Re           y_depth = c_depth = rgb_depth + 2, equal flags. Lossless.
+ *   YCgCo-Ro           y_depth = c_depth = rgb_depth + 1, equal flags. Lossless.
  *
- * Codes are numbered as in the published third edition of H.273. Its draft had YCgCo-Re at 15 and YCgCo-Ro at 16: with those numbers
- * and these depths a setting is refused, by 3 and by 7.
+ * Matrix codes below 15, and all primaries and transfers, mean the same in the three editions: with these it does not matter which
+ * of them is named. From 15 on it does:
+ *
+ *                      15                  16          17          18 to 255
+ *   2021               reserved            reserved    reserved    reserved
+ *   draft              YCgCo-Re            YCgCo-Ro    reserved    reserved
+ *   published          known, not served   YCgCo-Re    YCgCo-Ro    reserved
+ *
+ * If an edition accepts a setting, any other with the same codes, depths and flags gives the same samples or refuses. So a wrong
+ * edition can never tint a picture silently: the published one refuses the draft's 15 with 3, and its 16 with 7.
  *
  * A depth is the number of bits in use. Samples of depth d are 0 to 2^d - 1, and stand in the low bits of a uint16_t. The flags
  * say for each side whether it is full range (true) or narrow (false).
  */
+typedef enum cork_edition { CORK_EDITION_2021 = 1, CORK_EDITION_DRAFT = 2, CORK_EDITION_PUBLISHED = 3 } cork_edition;
+
 typedef struct cork_setting {
     uint8_t primaries;
     uint8_t transfer;
@@ -50,6 +69,7 @@ typedef struct cork_setting {
     uint8_t c_depth;
     bool rgb_full;
     bool ycc_full;
+    uint8_t edition;
 } cork_setting;
 
 /* ---- Pictures ----
@@ -104,22 +124,23 @@ static inline cork_source cork_read_back(cork_output output)
 
 /* ---- Refusals ----
  *
- * They are tested in the order 1 to 7, 11, 8, 9, 10, and the first that applies is given. So a refused call may have more than
- * one fault, and mending one can bring up the next.
+ * They are tested in the order 12, then 1 to 7, 11, 8, 9, 10, and the first that applies is given. So a refused call may have
+ * more than one fault, and mending one can bring up the next.
  */
 typedef enum cork_refusal {
     CORK_ACCEPTED = 0,
-    CORK_MATRIX_RESERVED = 1,      /* the matrix is 3 or 18 to 255 */
-    CORK_MATRIX_UNSPECIFIED = 2,   /* the matrix is 2, which names none */
-    CORK_MATRIX_NOT_SERVED = 3,    /* the matrix is 10 to 15 */
-    CORK_PRIMARIES_RESERVED = 4,   /* the primaries are not 1, 2, 4 to 12 or 22 */
-    CORK_TRANSFER_RESERVED = 5,    /* the transfer is not 1, 2 or 4 to 18 */
-    CORK_DEPTH_NOT_SERVED = 6,     /* a depth is outside 8 to 16, or outside 8 to 12 with a luma matrix */
-    CORK_DEPTHS_DISAGREE = 7,      /* the depths or the flags are not as the matrix asks */
-    CORK_SIZE_NOT_SERVED = 8,      /* a side outside 1 to 8192, or a stride less than the width or more than 16384 */
-    CORK_PLANE_TOO_SHORT = 9,      /* a plane is shorter than cork_needed_length */
-    CORK_SAMPLE_TOO_LARGE = 10,    /* a source sample has more bits than its depth; the answer says where, and which number it is */
-    CORK_NOT_FOR_THIS_SETTING = 11 /* the meter without a luma matrix, or the image check without a lossless setting */
+    CORK_MATRIX_RESERVED = 1,       /* the matrix is 3, or from 15 (2021), 17 (draft) or 18 (published) to 255 */
+    CORK_MATRIX_UNSPECIFIED = 2,    /* the matrix is 2, which names none */
+    CORK_MATRIX_NOT_SERVED = 3,     /* the matrix is 10 to 14, or 15 in the published edition */
+    CORK_PRIMARIES_RESERVED = 4,    /* the primaries are not 1, 2, 4 to 12 or 22 */
+    CORK_TRANSFER_RESERVED = 5,     /* the transfer is not 1, 2 or 4 to 18 */
+    CORK_DEPTH_NOT_SERVED = 6,      /* a depth is outside 8 to 16, or outside 8 to 12 with a luma matrix */
+    CORK_DEPTHS_DISAGREE = 7,       /* the depths or the flags are not as the matrix asks */
+    CORK_SIZE_NOT_SERVED = 8,       /* a side outside 1 to 8192, or a stride less than the width or more than 16384 */
+    CORK_PLANE_TOO_SHORT = 9,       /* a plane is shorter than cork_needed_length */
+    CORK_SAMPLE_TOO_LARGE = 10,     /* a source sample has more bits than its depth; the answer says where, and which number it is */
+    CORK_NOT_FOR_THIS_SETTING = 11, /* the meter without a luma matrix, or the image check without a lossless setting */
+    CORK_EDITION_UNKNOWN = 12       /* the edition is 0 or above 3 */
 } cork_refusal;
 
 /* The refusal in words, for a message; words too for a number that is no refusal. */
@@ -138,6 +159,7 @@ static inline const char *cork_refusal_text(int number)
     case CORK_PLANE_TOO_SHORT: return "a plane is too short for the picture";
     case CORK_SAMPLE_TOO_LARGE: return "a source sample is too large for its depth";
     case CORK_NOT_FOR_THIS_SETTING: return "the meter needs a luma matrix, the image check a lossless setting";
+    case CORK_EDITION_UNKNOWN: return "the edition is none of 1 (2021), 2 (draft) and 3 (published)";
     default: return "not a refusal number";
     }
 }
@@ -225,9 +247,9 @@ typedef struct cork_levels {
 #ifdef __cplusplus
 extern "C" {
 #endif
-uint8_t corkplover_primaries_label(uint8_t code);
-uint8_t corkplover_transfer_label(uint8_t code);
-uint8_t corkplover_matrix_label(uint8_t code);
+uint8_t corkplover_primaries_label(uint8_t edition, uint8_t code);
+uint8_t corkplover_transfer_label(uint8_t edition, uint8_t code);
+uint8_t corkplover_matrix_label(uint8_t edition, uint8_t code);
 uint64_t corkplover_forward_pixel(uint64_t setting, uint16_t r, uint16_t g, uint16_t b);
 uint64_t corkplover_reverse_pixel(uint64_t setting, uint16_t y, uint16_t cb, uint16_t cr);
 uint64_t corkplover_forward_frame(uint64_t setting, size_t width, size_t height, size_t source_stride, size_t output_stride,
@@ -250,12 +272,13 @@ typedef char cork_needs_64_bit_sizes_[sizeof(size_t) == 8 ? 1 : -1];
 #define CORK_FROM_BIT_(bit, value) ((uint64_t)(value) << (bit))
 #define CORK_PLANES_(p) (p).plane[0], (p).length[0], (p).plane[1], (p).length[1], (p).plane[2], (p).length[2]
 
-/* A byte for each code and depth, from the lowest byte up, and then a bit for each flag. The library looks at no bit above them. */
+/* A byte for each code and depth, from the lowest byte up, then a bit for each flag, and the edition in the highest byte. The
+ * library does not look at the six bits between. */
 static inline uint64_t cork_word_(cork_setting s)
 {
     return CORK_FROM_BIT_(0, s.primaries) + CORK_FROM_BIT_(8, s.transfer) + CORK_FROM_BIT_(16, s.matrix) +
            CORK_FROM_BIT_(24, s.rgb_depth) + CORK_FROM_BIT_(32, s.y_depth) + CORK_FROM_BIT_(40, s.c_depth) +
-           CORK_FROM_BIT_(48, s.rgb_full) + CORK_FROM_BIT_(49, s.ycc_full);
+           CORK_FROM_BIT_(48, s.rgb_full) + CORK_FROM_BIT_(49, s.ycc_full) + CORK_FROM_BIT_(56, s.edition);
 }
 
 static inline cork_answer cork_answer_(uint64_t packed)
@@ -266,28 +289,29 @@ static inline cork_answer cork_answer_(uint64_t packed)
 
 /* ---- Labels ----
  *
- * What H.273 says of a code point, for each of the 256: assigned a meaning, unspecified (2), or reserved.
+ * What an edition of H.273 says of a code point, for each of the 256: assigned a meaning, unspecified (2), or reserved. Where the
+ * edition is none the answer is CORK_NO_LABEL, which has the number of that refusal, so that cork_refusal_text has words for it.
  */
-typedef enum cork_label { CORK_ASSIGNED = 0, CORK_UNSPECIFIED = 1, CORK_RESERVED = 2 } cork_label;
+typedef enum cork_label { CORK_ASSIGNED = 0, CORK_UNSPECIFIED = 1, CORK_RESERVED = 2, CORK_NO_LABEL = 12 } cork_label;
 
-static inline cork_label cork_primaries_label(uint8_t code)
+static inline cork_label cork_primaries_label(uint8_t edition, uint8_t code)
 {
-    return (cork_label)corkplover_primaries_label(code);
+    return (cork_label)corkplover_primaries_label(edition, code);
 }
 
-static inline cork_label cork_transfer_label(uint8_t code)
+static inline cork_label cork_transfer_label(uint8_t edition, uint8_t code)
 {
-    return (cork_label)corkplover_transfer_label(code);
+    return (cork_label)corkplover_transfer_label(edition, code);
 }
 
-static inline cork_label cork_matrix_label(uint8_t code)
+static inline cork_label cork_matrix_label(uint8_t edition, uint8_t code)
 {
-    return (cork_label)corkplover_matrix_label(code);
+    return (cork_label)corkplover_matrix_label(edition, code);
 }
 
 /* ---- One pixel ----
  *
- * Accepted: the three samples, by cork_sample. Refusals: 1 to 7 and 10.
+ * Accepted: the three samples, by cork_sample. Refusals: 12, 1 to 7 and 10.
  */
 static inline cork_answer cork_forward_pixel(cork_setting s, uint16_t r, uint16_t g, uint16_t b)
 {
@@ -304,7 +328,7 @@ static inline cork_answer cork_reverse_pixel(cork_setting s, uint16_t y, uint16_
  * Forward reads R, G, B and writes Y, Cb, Cr; reverse the other way. The two sides may have different strides and lengths.
  * Accepted: each picture element of the output is the converted sample, and every other element of the output planes, in the
  * padding and past the last row, is 0. Refused: every element of the output planes is 0. So nothing that the output held before
- * is left after any call. The source is only read. Refusals: 1 to 7, 8, 9 and 10; 8 and 9 speak of both sides.
+ * is left after any call. The source is only read. Refusals: 12, 1 to 7, 8, 9 and 10; 8 and 9 speak of both sides.
  */
 static inline cork_answer cork_forward_frame(cork_setting s, size_t width, size_t height, cork_source source, cork_output output)
 {
@@ -322,7 +346,7 @@ static inline cork_answer cork_reverse_frame(cork_setting s, size_t width, size_
  *
  * On a lossless setting: whether some RGB picture within depth converts to this Y, Cb, Cr picture. Accepted: cork_has_source, and
  * where it is false the first pixel that no RGB pixel converts to, by cork_row and cork_column. The picture is only read.
- * Refusals: 1 to 7, 11, 8, 9 and 10.
+ * Refusals: 12, 1 to 7, 11, 8, 9 and 10.
  */
 static inline cork_answer cork_image_check(cork_setting s, size_t width, size_t height, cork_source ycc)
 {
@@ -333,7 +357,7 @@ static inline cork_answer cork_image_check(cork_setting s, size_t width, size_t 
  *
  * The level that a sample stands for on a luma matrix: 0 to 1 from black to white for Y, -0.5 to 0.5 for Cb and Cr, and somewhat
  * beyond for samples outside the nominal range. It is the exact quotient, rounded once to a float. A call on one sample looks
- * at that sample alone. Refusals: 1 to 7, 11 and 10; a 10 has the sample's plane, 0 for Y, 1 for Cb, 2 for Cr.
+ * at that sample alone. Refusals: 12, 1 to 7, 11 and 10; a 10 has the sample's plane, 0 for Y, 1 for Cb, 2 for Cr.
  */
 static inline cork_reading cork_meter_y(cork_setting s, uint16_t y)
 {

@@ -11,7 +11,10 @@ import os
 from array import array
 from collections import namedtuple
 
-Setting = namedtuple("Setting", "primaries transfer matrix rgb_depth y_depth c_depth rgb_full ycc_full")
+# The texts of H.273 that number codes. Every other number is refused, and a setting has no edition by default: so none is guessed.
+EDITION_2021, EDITION_DRAFT, EDITION_PUBLISHED = 1, 2, 3
+
+Setting = namedtuple("Setting", "primaries transfer matrix rgb_depth y_depth c_depth rgb_full ycc_full edition")
 Levels = namedtuple("Levels", "y cb cr")
 
 ASSIGNED, UNSPECIFIED, RESERVED = range(3)
@@ -29,6 +32,7 @@ _TEXTS = (
     "a plane is too short for the picture",
     "a source sample is too large for its depth",
     "the meter needs a luma matrix, the image check a lossless setting",
+    "the edition is none of 1 (2021), 2 (draft) and 3 (published)",
 )
 
 
@@ -113,7 +117,7 @@ def _export(name, result, parameters):
 
 
 # The library's compiler knows nothing of these lines; tests/clients/run compares them with its source and calls each.
-_labels = {kind: _export(kind + "_label", _BYTE, [_BYTE]) for kind in ("primaries", "transfer", "matrix")}
+_labels = {kind: _export(kind + "_label", _BYTE, [_BYTE, _BYTE]) for kind in ("primaries", "transfer", "matrix")}
 _exports = {
     name: _export(name, ctypes.c_uint64, [_SETTING] + more)
     for name, more in {
@@ -131,10 +135,11 @@ _exports = {
 
 
 def _word(s):
-    """A setting as the library takes it: a byte for each code and depth, from the lowest byte up, and then a bit for each flag."""
+    """A setting as the library takes it: a byte for each code and depth, from the lowest byte up, then a bit for each flag, and the edition in
+    the highest byte."""
     codes = [_number(v, 8) for v in (s.primaries, s.transfer, s.matrix, s.rgb_depth, s.y_depth, s.c_depth)]
     flags = _flag(s.rgb_full) + 2 * _flag(s.ycc_full)
-    return int.from_bytes([*codes, flags], "little")
+    return int.from_bytes([*codes, flags, _number(s.edition, 8)], "little")
 
 
 def _call(name, s, *more):
@@ -175,16 +180,24 @@ def _reading(name, s, v):
     return level.value
 
 
-def primaries_label(code):
-    return _labels["primaries"](_number(code, 8))
+def _label(kind, edition, code):
+    """A label; where the edition is none, the refusal's number comes in its place."""
+    answer = _labels[kind](_number(edition, 8), _number(code, 8))
+    if answer not in (ASSIGNED, UNSPECIFIED, RESERVED):
+        raise Refusal(answer)
+    return answer
 
 
-def transfer_label(code):
-    return _labels["transfer"](_number(code, 8))
+def primaries_label(edition, code):
+    return _label("primaries", edition, code)
 
 
-def matrix_label(code):
-    return _labels["matrix"](_number(code, 8))
+def transfer_label(edition, code):
+    return _label("transfer", edition, code)
+
+
+def matrix_label(edition, code):
+    return _label("matrix", edition, code)
 
 
 def forward_pixel(s, rgb):

@@ -5,6 +5,15 @@
 //! Compile as a crate of its own, with the folder of libcorkplover.a in the search path:
 //! `rustc -O --edition 2021 --crate-type rlib -L native=FOLDER corkplover.rs`
 
+/// The text of 2021.
+pub const EDITION_2021: u8 = 1;
+/// The draft of the third edition.
+pub const EDITION_DRAFT: u8 = 2;
+/// The published third edition: that of the files of today.
+pub const EDITION_PUBLISHED: u8 = 3;
+
+/// The edition is the text of H.273 that numbers the codes. One that is none of the three is refused, and there is no setting by
+/// default: so none is ever guessed.
 #[derive(Clone, Copy, Debug, PartialEq, Eq)]
 pub struct Setting {
     pub primaries: u8,
@@ -15,6 +24,7 @@ pub struct Setting {
     pub c_depth: u8,
     pub rgb_full: bool,
     pub ycc_full: bool,
+    pub edition: u8,
 }
 
 /// Three planes that share a stride, to be read.
@@ -56,7 +66,7 @@ pub struct Levels {
     pub cr: f32,
 }
 
-const TEXTS: [&str; 12] = [
+const TEXTS: [&str; 13] = [
     "accepted",
     "the matrix code is reserved",
     "the matrix code is 2, unspecified",
@@ -69,6 +79,7 @@ const TEXTS: [&str; 12] = [
     "a plane is too short for the picture",
     "a source sample is too large for its depth",
     "the meter needs a luma matrix, the image check a lossless setting",
+    "the edition is none of 1 (2021), 2 (draft) and 3 (published)",
 ];
 
 /// The refusal in words.
@@ -79,9 +90,9 @@ pub fn refusal_text(number: u8) -> &'static str {
 // The library's compiler knows nothing of these lines; tests/clients/run compares them with its source and calls each.
 #[link(name = "corkplover", kind = "static")]
 extern "C" {
-    fn corkplover_primaries_label(code: u8) -> u8;
-    fn corkplover_transfer_label(code: u8) -> u8;
-    fn corkplover_matrix_label(code: u8) -> u8;
+    fn corkplover_primaries_label(edition: u8, code: u8) -> u8;
+    fn corkplover_transfer_label(edition: u8, code: u8) -> u8;
+    fn corkplover_matrix_label(edition: u8, code: u8) -> u8;
     fn corkplover_forward_pixel(setting: u64, r: u16, g: u16, b: u16) -> u64;
     fn corkplover_reverse_pixel(setting: u64, y: u16, cb: u16, cr: u16) -> u64;
     fn corkplover_forward_frame(setting: u64, width: usize, height: usize, source_stride: usize, output_stride: usize,
@@ -98,10 +109,11 @@ extern "C" {
     fn corkplover_meter_pixel(setting: u64, y: u16, cb: u16, cr: u16, y_level: *mut f32, cb_level: *mut f32, cr_level: *mut f32) -> u64;
 }
 
-/// A setting as the library takes it: a byte for each code and depth, from the lowest byte up, and then a bit for each flag.
+/// A setting as the library takes it: a byte for each code and depth, from the lowest byte up, then a bit for each flag, and the edition in
+/// the highest byte.
 fn word(s: &Setting) -> u64 {
     let flags = u8::from(s.rgb_full) + 2 * u8::from(s.ycc_full);
-    u64::from_le_bytes([s.primaries, s.transfer, s.matrix, s.rgb_depth, s.y_depth, s.c_depth, flags, 0])
+    u64::from_le_bytes([s.primaries, s.transfer, s.matrix, s.rgb_depth, s.y_depth, s.c_depth, flags, s.edition])
 }
 
 /// Calls an export with the setting before everything else. The first form hands on planes, each as its pointer and its own length. Safe,
@@ -115,17 +127,21 @@ macro_rules! call {
     };
 }
 
+fn refusal(packed: u64) -> Refusal {
+    Refusal {
+        number: packed as u8,
+        plane: (packed >> 8) as u8,
+        row: (packed >> 16) as u16,
+        column: (packed >> 32) as u16,
+        sample: (packed >> 48) as u16,
+    }
+}
+
 /// The packed answer where it is accepted.
 fn accepted(packed: u64) -> Result<u64, Refusal> {
     match packed as u8 {
         0 => Ok(packed),
-        number => Err(Refusal {
-            number,
-            plane: (packed >> 8) as u8,
-            row: (packed >> 16) as u16,
-            column: (packed >> 32) as u16,
-            sample: (packed >> 48) as u16,
-        }),
+        _ => Err(refusal(packed)),
     }
 }
 
@@ -133,24 +149,26 @@ fn samples(packed: u64) -> [u16; 3] {
     [(packed >> 16) as u16, (packed >> 32) as u16, (packed >> 48) as u16]
 }
 
-fn label(number: u8) -> Label {
+/// A label, or the refusal of an edition that is none: its number stands where a label's would.
+fn label(number: u8) -> Result<Label, Refusal> {
     match number {
-        0 => Label::Assigned,
-        1 => Label::Unspecified,
-        _ => Label::Reserved,
+        0 => Ok(Label::Assigned),
+        1 => Ok(Label::Unspecified),
+        2 => Ok(Label::Reserved),
+        _ => Err(refusal(u64::from(number))),
     }
 }
 
-pub fn primaries_label(code: u8) -> Label {
-    label(unsafe { corkplover_primaries_label(code) })
+pub fn primaries_label(edition: u8, code: u8) -> Result<Label, Refusal> {
+    label(unsafe { corkplover_primaries_label(edition, code) })
 }
 
-pub fn transfer_label(code: u8) -> Label {
-    label(unsafe { corkplover_transfer_label(code) })
+pub fn transfer_label(edition: u8, code: u8) -> Result<Label, Refusal> {
+    label(unsafe { corkplover_transfer_label(edition, code) })
 }
 
-pub fn matrix_label(code: u8) -> Label {
-    label(unsafe { corkplover_matrix_label(code) })
+pub fn matrix_label(edition: u8, code: u8) -> Result<Label, Refusal> {
+    label(unsafe { corkplover_matrix_label(edition, code) })
 }
 
 /// Y, Cb and Cr of an RGB pixel.

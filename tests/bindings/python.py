@@ -6,8 +6,13 @@ from array import array
 
 import corkplover as cork
 
-LOSSLESS = cork.Setting(1, 1, 8, 8, 8, 9, True, True)
-NARROW = cork.Setting(1, 1, 1, 8, 8, 8, False, False)
+LOSSLESS = cork.Setting(1, 1, 8, 8, 8, 9, True, True, cork.EDITION_PUBLISHED)
+NARROW = cork.Setting(1, 1, 1, 8, 8, 8, False, False, cork.EDITION_PUBLISHED)
+# YCgCo-Re and YCgCo-Ro, by their published numbers
+RE = LOSSLESS._replace(matrix=16, y_depth=10, c_depth=10)
+RO = LOSSLESS._replace(matrix=17, y_depth=9, c_depth=9)
+
+EDITIONS = cork.EDITION_2021, cork.EDITION_DRAFT, cork.EDITION_PUBLISHED
 
 
 def planes(*three):
@@ -26,6 +31,38 @@ class Answers(unittest.TestCase):
         self.assertEqual(cork.reverse_pixel(LOSSLESS, (63, 129, 511)), (255, 0, 0))
         self.refused(2, 0, 0, cork.forward_pixel, LOSSLESS._replace(matrix=2), (0, 0, 0))
         self.refused(10, 2, 300, cork.forward_pixel, LOSSLESS, (0, 0, 300))
+
+    def test_every_edition_has_the_codes_below_15(self):
+        self.assertEqual(EDITIONS, (1, 2, 3))
+        for edition in EDITIONS:
+            self.assertEqual(cork.forward_pixel(LOSSLESS._replace(edition=edition), (255, 0, 0)), (63, 129, 511))
+            self.assertEqual(cork.meter_y(NARROW._replace(edition=edition), 235), 1.0)
+
+    def test_draft_and_published_numbers(self):
+        """The draft has the two matrices at the number before; under another edition its numbers are refused."""
+        for published, ycc, by_newer in ((RE, (63, 385, 767), 3), (RO, (63, 129, 511), 7)):
+            draft = published._replace(matrix=published.matrix - 1, edition=cork.EDITION_DRAFT)
+            for s in draft, published:
+                self.assertEqual(cork.forward_pixel(s, (255, 0, 0)), ycc)
+                self.assertEqual(cork.reverse_pixel(s, ycc), (255, 0, 0))
+                self.refused(1, 0, 0, cork.forward_pixel, s._replace(edition=cork.EDITION_2021), (255, 0, 0))
+            self.refused(by_newer, 0, 0, cork.forward_pixel, draft._replace(edition=cork.EDITION_PUBLISHED), (255, 0, 0))
+
+    def test_editions_that_are_none(self):
+        """With a matrix and a sample that are refused too: an edition that is none goes before them."""
+        source = cork.Source(planes([300], [0], [0]), 1)
+        for edition in (0, 4, 255):
+            s = LOSSLESS._replace(edition=edition, matrix=2)
+            self.refused(12, 0, 0, cork.forward_frame, s, 1, 1, source, cork.Output([1, 1, 1], 1))
+            self.refused(12, 0, 0, cork.image_check, s, 0, 0, source)
+            for call in (cork.forward_pixel, cork.reverse_pixel, cork.meter_pixel):
+                self.refused(12, 0, 0, call, s, (300, 0, 0))
+            self.refused(12, 0, 0, cork.meter_cb, s, 300)
+            for label in (cork.primaries_label, cork.transfer_label, cork.matrix_label):
+                self.refused(12, 0, 0, label, edition, 1)
+        with self.assertRaises(cork.Refusal) as caught:
+            cork.matrix_label(0, 1)
+        self.assertEqual(str(caught.exception), "refused 12: the edition is none of 1 (2021), 2 (draft) and 3 (published)")
 
     def test_refusals_are_copied_and_pickled(self):
         """Also what a caller noted on the exception goes along."""
@@ -64,10 +101,16 @@ class Answers(unittest.TestCase):
         self.assertEqual(cork.meter_pixel(NARROW, (235, 240, 16)), (1.0, 0.5, -0.5))
 
     def test_labels_and_texts(self):
-        labels = cork.primaries_label(22), cork.transfer_label(2), cork.matrix_label(18)
-        self.assertEqual(labels, (cork.ASSIGNED, cork.UNSPECIFIED, cork.RESERVED))
+        for edition in EDITIONS:
+            labels = cork.primaries_label(edition, 22), cork.transfer_label(edition, 2), cork.matrix_label(edition, 18)
+            self.assertEqual(labels, (cork.ASSIGNED, cork.UNSPECIFIED, cork.RESERVED))
+        of_matrix = {code: [cork.matrix_label(edition, code) for edition in EDITIONS] for code in (15, 16, 17)}
+        self.assertEqual(of_matrix[15], [cork.RESERVED, cork.ASSIGNED, cork.ASSIGNED])
+        self.assertEqual(of_matrix[16], [cork.RESERVED, cork.ASSIGNED, cork.ASSIGNED])
+        self.assertEqual(of_matrix[17], [cork.RESERVED, cork.RESERVED, cork.ASSIGNED])
         self.assertEqual(cork.refusal_text(9), "a plane is too short for the picture")
-        self.assertEqual(cork.refusal_text(12), "not a refusal number")
+        self.assertEqual(cork.refusal_text(12), "the edition is none of 1 (2021), 2 (draft) and 3 (published)")
+        self.assertEqual(cork.refusal_text(13), "not a refusal number")
 
 
 class Duties(unittest.TestCase):
@@ -76,11 +119,22 @@ class Duties(unittest.TestCase):
             self.assertRaises(ValueError, cork.forward_pixel, LOSSLESS._replace(matrix=wrong), (0, 0, 0))
         self.assertRaises(ValueError, cork.forward_pixel, LOSSLESS, (65536, 0, 0))
         self.assertRaises(ValueError, cork.image_check, LOSSLESS, 2**64, 1, cork.Source(planes([], [], []), 1))
-        self.assertRaises(ValueError, cork.matrix_label, 257)
+        for wrong in ((cork.EDITION_PUBLISHED, 257), (257, 1)):
+            self.assertRaises(ValueError, cork.matrix_label, *wrong)
         for wrong in (1.0, "1", True, None):
             self.assertRaises(TypeError, cork.forward_pixel, LOSSLESS, (wrong, 0, 0))
         for wrong in (1, 0, None):
             self.assertRaises(TypeError, cork.forward_pixel, LOSSLESS._replace(rgb_full=wrong), (0, 0, 0))
+
+    def test_no_edition_is_guessed(self):
+        self.assertRaises(TypeError, cork.Setting, *LOSSLESS[:8])
+        self.assertRaises(TypeError, cork.forward_pixel, LOSSLESS[:8], (0, 0, 0))
+        self.assertRaises(TypeError, cork.matrix_label, 1)
+        for wrong in (256, -1):
+            self.assertRaises(ValueError, cork.forward_pixel, LOSSLESS._replace(edition=wrong), (0, 0, 0))
+        for wrong in (3.0, "3", True, None):
+            self.assertRaises(TypeError, cork.forward_pixel, LOSSLESS._replace(edition=wrong), (0, 0, 0))
+            self.assertRaises(TypeError, cork.matrix_label, wrong, 1)
 
     def test_planes_are_of_one_kind(self):
         for wrong in (array("B", [1]), array("L", [1]), b"ab", memoryview(bytes(8)).cast("H", [2, 2])):

@@ -2,10 +2,25 @@
 
 use corkplover::*;
 
-const LOSSLESS: Setting =
-    Setting { primaries: 1, transfer: 1, matrix: 8, rgb_depth: 8, y_depth: 8, c_depth: 9, rgb_full: true, ycc_full: true };
+const LOSSLESS: Setting = Setting {
+    primaries: 1,
+    transfer: 1,
+    matrix: 8,
+    rgb_depth: 8,
+    y_depth: 8,
+    c_depth: 9,
+    rgb_full: true,
+    ycc_full: true,
+    edition: EDITION_PUBLISHED,
+};
 
 const NARROW: Setting = Setting { matrix: 1, c_depth: 8, rgb_full: false, ycc_full: false, ..LOSSLESS };
+
+/// YCgCo-Re and YCgCo-Ro, by their published numbers.
+const RE: Setting = Setting { matrix: 16, y_depth: 10, c_depth: 10, ..LOSSLESS };
+const RO: Setting = Setting { matrix: 17, y_depth: 9, c_depth: 9, ..LOSSLESS };
+
+const EDITIONS: [u8; 3] = [EDITION_2021, EDITION_DRAFT, EDITION_PUBLISHED];
 
 fn refused(number: u8) -> Refusal {
     Refusal { number, plane: 0, row: 0, column: 0, sample: 0 }
@@ -17,6 +32,52 @@ fn pixels() {
     assert_eq!(reverse_pixel(&LOSSLESS, [63, 129, 511]), Ok([255, 0, 0]));
     assert_eq!(forward_pixel(&Setting { matrix: 2, ..LOSSLESS }, [0, 0, 0]), Err(refused(2)));
     assert_eq!(forward_pixel(&LOSSLESS, [0, 0, 300]), Err(Refusal { plane: 2, sample: 300, ..refused(10) }));
+}
+
+#[test]
+fn every_edition_has_the_codes_below_15() {
+    assert_eq!(EDITIONS, [1, 2, 3]);
+    for edition in EDITIONS {
+        assert_eq!(forward_pixel(&Setting { edition, ..LOSSLESS }, [255, 0, 0]), Ok([63, 129, 511]));
+        assert_eq!(meter_y(&Setting { edition, ..NARROW }, 235), Ok(1.0));
+    }
+}
+
+/// The draft has the two matrices at the number before; under another edition its numbers are refused.
+#[test]
+fn draft_and_published_numbers() {
+    for (published, ycc, by_newer) in [(RE, [63, 385, 767], 3), (RO, [63, 129, 511], 7)] {
+        let draft = Setting { matrix: published.matrix - 1, edition: EDITION_DRAFT, ..published };
+        for s in [draft, published] {
+            assert_eq!(forward_pixel(&s, [255, 0, 0]), Ok(ycc));
+            assert_eq!(reverse_pixel(&s, ycc), Ok([255, 0, 0]));
+            assert_eq!(forward_pixel(&Setting { edition: EDITION_2021, ..s }, [255, 0, 0]), Err(refused(1)));
+        }
+        let newer = Setting { edition: EDITION_PUBLISHED, ..draft };
+        assert_eq!(forward_pixel(&newer, [255, 0, 0]), Err(refused(by_newer)));
+    }
+}
+
+/// With a matrix and a sample that are refused too: an edition that is none goes before them.
+#[test]
+fn editions_that_are_none() {
+    for edition in [0, 4, 255] {
+        let s = Setting { edition, matrix: 2, ..LOSSLESS };
+        let source = Source { planes: [&[300], &[0], &[0]], stride: 1 };
+        let (mut y, mut cb, mut cr) = ([9u16], [9u16], [9u16]);
+        let mut output = Output { planes: [&mut y, &mut cb, &mut cr], stride: 1 };
+        assert_eq!(forward_frame(&s, 1, 1, source, &mut output), Err(refused(12)));
+        assert_eq!((y, cb, cr), ([0], [0], [0]));
+        assert_eq!(forward_pixel(&s, [300, 0, 0]), Err(refused(12)));
+        assert_eq!(reverse_pixel(&s, [300, 0, 0]), Err(refused(12)));
+        assert_eq!(image_check(&s, 0, 0, source), Err(refused(12)));
+        assert_eq!(meter_pixel(&s, [300, 0, 0]), Err(refused(12)));
+        assert_eq!(meter_cb(&s, 300), Err(refused(12)));
+        for label in [primaries_label, transfer_label, matrix_label] {
+            assert_eq!(label(edition, 1), Err(refused(12)));
+        }
+    }
+    assert_eq!(refusal_text(12), "the edition is none of 1 (2021), 2 (draft) and 3 (published)");
 }
 
 /// The frame that the rules print, both ways, with old contents in the output and noise in the padding.
@@ -65,7 +126,15 @@ fn meters() {
 
 #[test]
 fn labels_and_texts() {
-    assert_eq!((primaries_label(22), transfer_label(2), matrix_label(18)), (Label::Assigned, Label::Unspecified, Label::Reserved));
+    for edition in EDITIONS {
+        assert_eq!(primaries_label(edition, 22), Ok(Label::Assigned));
+        assert_eq!(transfer_label(edition, 2), Ok(Label::Unspecified));
+        assert_eq!(matrix_label(edition, 18), Ok(Label::Reserved));
+    }
+    let of_matrix = |code| EDITIONS.map(|edition| matrix_label(edition, code).unwrap());
+    assert_eq!(of_matrix(15), [Label::Reserved, Label::Assigned, Label::Assigned]);
+    assert_eq!(of_matrix(16), [Label::Reserved, Label::Assigned, Label::Assigned]);
+    assert_eq!(of_matrix(17), [Label::Reserved, Label::Reserved, Label::Assigned]);
     assert_eq!(refusal_text(9), "a plane is too short for the picture");
-    assert_eq!(refusal_text(12), "not a refusal number");
+    assert_eq!(refusal_text(13), "not a refusal number");
 }

@@ -12,17 +12,24 @@ static void print_refusal(cork_answer a)
     printf("\n");
 }
 
-static void print_label(cork_label label)
-{
-    static const char *const words[] = {"assigned", "unspecified", "reserved"};
-    printf("%s\n", words[label]);
-}
-
 static uint32_t bits(float level)
 {
     uint32_t word;
     memcpy(&word, &level, sizeof word);
     return word;
+}
+
+static void label_case(char letter)
+{
+    static const char *const words[] = {"assigned", "unspecified", "reserved"};
+    uint8_t edition = (uint8_t)number(), code = (uint8_t)number();
+    cork_label label = letter == 'p'   ? cork_primaries_label(edition, code)
+                       : letter == 't' ? cork_transfer_label(edition, code)
+                                       : cork_matrix_label(edition, code);
+    if (label == CORK_NO_LABEL)
+        printf("refused %d\n", (int)label);
+    else
+        printf("%s\n", words[label]);
 }
 
 static void pixel_case(char letter)
@@ -125,9 +132,7 @@ int main(int count, char **words)
     filled = !(count > 1 && strcmp(words[1], "unfilled") == 0);
     for (char letter; (letter = next_case()) != 0;) {
         switch (letter) {
-        case 'p': print_label(cork_primaries_label((uint8_t)number())); break;
-        case 't': print_label(cork_transfer_label((uint8_t)number())); break;
-        case 'x': print_label(cork_matrix_label((uint8_t)number())); break;
+        case 'p': case 't': case 'x': label_case(letter); break;
         case 'f': case 'r': pixel_case(letter); break;
         case 's': source_case(); break;
         case 'y': case 'b': case 'c': reading_case(letter); break;

@@ -17,8 +17,8 @@ class Words:
         return int(self.word())
 
     def setting(self):
-        numbers = [self.number() for _ in range(8)]
-        return cork.Setting(*numbers[:6], *map(bool, numbers[6:]))
+        edition, *numbers = [self.number() for _ in range(9)]
+        return cork.Setting(*numbers[:6], *map(bool, numbers[6:]), edition)
 
     def pixel(self):
         return self.number(), self.number(), self.number()
@@ -54,7 +54,7 @@ def levels(w):
 
 def label(call):
     names = {cork.ASSIGNED: "assigned", cork.UNSPECIFIED: "unspecified", cork.RESERVED: "reserved"}
-    return lambda w: names[call(w.number())]
+    return lambda w: names[call(w.number(), w.number())]
 
 
 def source_check(w):

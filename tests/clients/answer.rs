@@ -16,8 +16,10 @@ impl Words<'_> {
         self.number::<u8>() != 0
     }
 
+    /// The fields are read in the order in which they stand here.
     fn setting(&mut self) -> Setting {
         Setting {
+            edition: self.number(),
             primaries: self.number(),
             transfer: self.number(),
             matrix: self.number(),
@@ -107,9 +109,9 @@ fn answer(line: &str) -> String {
     let mut words = Words(line.split_ascii_whitespace());
     let w = &mut words;
     match w.0.next().expect("a case") {
-        "p" => label(primaries_label(w.number())),
-        "t" => label(transfer_label(w.number())),
-        "x" => label(matrix_label(w.number())),
+        "p" => said(primaries_label(w.number(), w.number()), label),
+        "t" => said(transfer_label(w.number(), w.number()), label),
+        "x" => said(matrix_label(w.number(), w.number()), label),
         "f" => said(forward_pixel(&w.setting(), w.pixel()), samples),
         "r" => said(reverse_pixel(&w.setting(), w.pixel()), samples),
         "s" => source_check(&w.setting(), w.pixel()),

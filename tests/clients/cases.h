@@ -32,6 +32,7 @@ static inline uint64_t number(void)
 static inline cork_setting read_setting(void)
 {
     cork_setting s;
+    s.edition = (uint8_t)number();
     s.primaries = (uint8_t)number();
     s.transfer = (uint8_t)number();
     s.matrix = (uint8_t)number();

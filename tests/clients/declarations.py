@@ -1,5 +1,5 @@
 """Compares what the header and the bindings declare with the exports as the box's source has them: names, types, order. Compares, too, the
-words that they have for each refusal, and the numbers of the rules' page with them.
+words that they have for each refusal, and the numbers of the rules' page with them; and their numbers for editions.
 
 Standard input is the header after the preprocessor. The box's compiler knows nothing of these declarations, and a call with small
 numbers may come out right though a type is too wide; so the texts are compared, parameter by parameter.
@@ -77,6 +77,15 @@ def words_differ(header):
         yield "the rules have refusals %s, and there are words for 1 to %d" % (numbers, len(of_c) - 1)
 
 
+def editions_differ(header):
+    """What is wrong with the numbers of editions, a line for all."""
+    of_c = re.findall(r"CORK_(EDITION_\w+) = (\d+)", re.search(r"enum cork_edition \{([^}]*)\}", header)[1])
+    of_rust = re.findall(r"^pub const (EDITION_\w+): u8 = (\d+);$", read("bindings/rust/corkplover.rs"), flags=re.M)
+    of_python = [(name, str(number)) for name, number in vars(corkplover).items() if name.startswith("EDITION_")]
+    if not of_c == of_rust == of_python:
+        yield "editions: the header has %s\n  Rust %s\n  Python %s" % (of_c, of_rust, of_python)
+
+
 def main():
     header = sys.stdin.read()
     source = of_source()
@@ -87,7 +96,7 @@ def main():
             if declared.get(name) != wanted.get(name):
                 wrong += 1
                 print("%s, %s:\n  declared %s\n  exported %s" % (place, name, declared.get(name), wanted.get(name)))
-    for line in words_differ(header):
+    for line in [*words_differ(header), *editions_differ(header)]:
         wrong += 1
         print(line)
     print("%d exports, %d differences" % (len(source), wrong))

@@ -1,7 +1,8 @@
 /* Sizes and strides at the ends of their types, in all combinations, on all three calls that take a picture. A length has to be true,
  * so no plane can be that long: outputs have 0, 1 and 40 elements, sources also 2^32 and one more, which 32 bits would take for 0
  * and 1. Each answer is compared with what the refusal table says, worked out here without any multiplication that could wrap; the
- * output must be zeros, and the guards around it must stand. */
+ * output must be zeros, and the guards around it must stand. Each call is made again in every edition and with numbers that are none,
+ * and with the bits of the setting's word set that the library does not look at. */
 #define _DEFAULT_SOURCE
 #include "cases.h"
 #include <sys/mman.h>
@@ -19,11 +20,24 @@ static const size_t LENGTHS[] = {0, 1, ROOM, LONG, LONG + 1};
 enum { SHORT_LENGTHS = 3, ALL_LENGTHS = sizeof LENGTHS / sizeof *LENGTHS };
 
 /* Code 0 only moves planes about, so that a black picture is zeros on both sides. */
-static const cork_setting LOSSLESS = {1, 1, 0, 8, 8, 8, true, true};
+static const cork_setting LOSSLESS = {1, 1, 0, 8, 8, 8, true, true, CORK_EDITION_PUBLISHED};
+
+static const uint8_t EDITIONS[] = {CORK_EDITION_2021, CORK_EDITION_DRAFT, CORK_EDITION_PUBLISHED, 0, 4, 255};
+enum { EDITION_COUNT = sizeof EDITIONS / sizeof *EDITIONS };
+
+/* Bits 50 to 55 of a setting's word. */
+#define NOT_LOOKED_AT ((uint64_t)0x3f << 50)
 
 typedef struct sizes {
     size_t width, height, stride, output_stride;
 } sizes;
+
+typedef struct trial {
+    char call;
+    uint8_t edition;
+    sizes z;
+    size_t source_length, output_length;
+} trial;
 
 static bool side_served(size_t n)
 {
@@ -35,13 +49,14 @@ static bool stride_served(size_t width, size_t stride)
     return width <= stride && stride <= CORK_LARGEST_STRIDE;
 }
 
-static int expected(char call, sizes z, size_t source_length, size_t output_length)
+static int expected(trial t)
 {
-    bool two = call != 'I';
-    if (!side_served(z.width) || !side_served(z.height)) return 8;
-    if (!stride_served(z.width, z.stride) || (two && !stride_served(z.width, z.output_stride))) return 8;
-    if (source_length < cork_needed_length(z.width, z.height, z.stride)) return 9;
-    if (two && output_length < cork_needed_length(z.width, z.height, z.output_stride)) return 9;
+    bool two = t.call != 'I';
+    if (t.edition < CORK_EDITION_2021 || CORK_EDITION_PUBLISHED < t.edition) return 12;
+    if (!side_served(t.z.width) || !side_served(t.z.height)) return 8;
+    if (!stride_served(t.z.width, t.z.stride) || (two && !stride_served(t.z.width, t.z.output_stride))) return 8;
+    if (t.source_length < cork_needed_length(t.z.width, t.z.height, t.z.stride)) return 9;
+    if (two && t.output_length < cork_needed_length(t.z.width, t.z.height, t.z.output_stride)) return 9;
     return 0;
 }
 
@@ -72,34 +87,70 @@ static bool is_zero_plane(int k, size_t length, bool written)
     return true;
 }
 
-static long tried, refused_8, refused_9, accepted;
+static cork_setting setting_of(trial t)
+{
+    cork_setting s = LOSSLESS;
+    s.edition = t.edition;
+    return s;
+}
 
-static void try_one(char call, sizes z, size_t source_length, size_t output_length)
+static uint64_t by_header(trial t, cork_source from, cork_output to)
+{
+    if (t.call == 'I') return cork_image_check(setting_of(t), t.z.width, t.z.height, from).packed;
+    if (t.call == 'F') return cork_forward_frame(setting_of(t), t.z.width, t.z.height, from, to).packed;
+    return cork_reverse_frame(setting_of(t), t.z.width, t.z.height, from, to).packed;
+}
+
+#define PLANES(p) (p).plane[0], (p).length[0], (p).plane[1], (p).length[1], (p).plane[2], (p).length[2]
+
+/* By the library's own functions, since the header never sets them. */
+static uint64_t with_bits_set(trial t, cork_source from, cork_output to)
+{
+    uint64_t word = cork_word_(setting_of(t)) | NOT_LOOKED_AT;
+    sizes z = t.z;
+    if (t.call == 'I') return corkplover_image_check(word, z.width, z.height, z.stride, PLANES(from));
+    if (t.call == 'F')
+        return corkplover_forward_frame(word, z.width, z.height, z.stride, z.output_stride, PLANES(from), PLANES(to));
+    return corkplover_reverse_frame(word, z.width, z.height, z.stride, z.output_stride, PLANES(from), PLANES(to));
+}
+
+static long tried, given[13];
+
+static void try_one(trial t, uint64_t (*ask)(trial, cork_source, cork_output))
 {
     for (int k = 0; k < 3; k++)
         for (size_t i = 0; i < GUARD + ROOM + GUARD; i++) blocks[k][i] = 0xbeef;
-    cork_source from = cork_source_of(zeros, zeros, zeros, source_length, z.stride);
-    cork_output to = cork_output_of(blocks[0] + GUARD, blocks[1] + GUARD, blocks[2] + GUARD, output_length, z.output_stride);
-    cork_answer a = call == 'I'   ? cork_image_check(LOSSLESS, z.width, z.height, from)
-                    : call == 'F' ? cork_forward_frame(LOSSLESS, z.width, z.height, from, to)
-                                  : cork_reverse_frame(LOSSLESS, z.width, z.height, from, to);
-    int number = expected(call, z, source_length, output_length);
-    bool whole = (a.packed & 0xff) == (uint64_t)number && (number == 0 || a.packed == (uint64_t)number);
-    for (int k = 0; k < 3; k++) whole = whole && is_zero_plane(k, output_length, call != 'I');
+    cork_source from = cork_source_of(zeros, zeros, zeros, t.source_length, t.z.stride);
+    cork_output to = cork_output_of(blocks[0] + GUARD, blocks[1] + GUARD, blocks[2] + GUARD, t.output_length, t.z.output_stride);
+    uint64_t packed = ask(t, from, to);
+    int number = expected(t);
+    bool whole = (packed & 0xff) == (uint64_t)number && (number == 0 || packed == (uint64_t)number);
+    for (int k = 0; k < 3; k++) whole = whole && is_zero_plane(k, t.output_length, t.call != 'I');
     tried++;
-    refused_8 += number == 8;
-    refused_9 += number == 9;
-    accepted += number == 0;
+    given[number]++;
     if (whole) return;
-    printf("%c width %zu height %zu strides %zu %zu lengths %zu %zu: answer %" PRIx64 ", not refusal %d\n", call, z.width, z.height,
-           z.stride, z.output_stride, source_length, output_length, a.packed, number);
+    printf("%c edition %u%s width %zu height %zu strides %zu %zu lengths %zu %zu: answer %" PRIx64 ", not refusal %d\n", t.call,
+           t.edition, ask == with_bits_set ? " and bits set" : "", t.z.width, t.z.height, t.z.stride, t.z.output_stride,
+           t.source_length, t.output_length, packed, number);
     exit(1);
+}
+
+static void try_editions(trial t)
+{
+    try_one(t, by_header);
+    for (int e = 0; e < EDITION_COUNT; e++) {
+        t.edition = EDITIONS[e];
+        try_one(t, with_bits_set);
+    }
 }
 
 static void try_lengths(char call, sizes z)
 {
     for (int i = 0; i < source_lengths; i++)
-        for (int j = 0; j < (call == 'I' ? 1 : SHORT_LENGTHS); j++) try_one(call, z, LENGTHS[i], LENGTHS[j]);
+        for (int j = 0; j < (call == 'I' ? 1 : SHORT_LENGTHS); j++) {
+            trial t = {call, CORK_EDITION_PUBLISHED, z, LENGTHS[i], LENGTHS[j]};
+            try_editions(t);
+        }
 }
 
 int main(void)
@@ -114,6 +165,6 @@ int main(void)
                     try_lengths('R', z);
                     if (o == 0) try_lengths('I', z);
                 }
-    printf("%ld calls: %ld refused with 8, %ld with 9, %ld accepted\n", tried, refused_8, refused_9, accepted);
-    return refused_8 > 0 && refused_9 > 0 && accepted > 0 ? 0 : 1;
+    printf("%ld calls: %ld refused with 12, %ld with 8, %ld with 9, %ld accepted\n", tried, given[12], given[8], given[9], given[0]);
+    return given[12] > 0 && given[8] > 0 && given[9] > 0 && given[0] > 0 ? 0 : 1;
 }

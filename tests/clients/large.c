@@ -4,7 +4,7 @@
 
 enum { SIDE = CORK_LARGEST_SIDE, STRIDE = CORK_LARGEST_STRIDE };
 
-static const cork_setting LOSSLESS = {1, 1, 8, 8, 8, 9, true, true};
+static const cork_setting LOSSLESS = {1, 1, 8, 8, 8, 9, true, true, CORK_EDITION_PUBLISHED};
 
 /* Black and white on this setting, as Y, Cb, Cr. */
 static const uint16_t BLACK[3] = {0, 256, 256}, WHITE[3] = {255, 256, 256};

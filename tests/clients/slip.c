@@ -3,7 +3,7 @@
  *   EXPORT parameters I J   two parameters in each other's place, counted from 0; a plane is one parameter with its length
  *   EXPORT fields I J       two fields of the setting in each other's place in its word
  *   EXPORT reversed         the word's bytes in the opposite order
- *   EXPORT noise BIT        noise in the word's bits from this one up
+ *   EXPORT noise I J        noise in the word's bits from I up to J
  *
  * The client is compiled with each corkplover_NAME renamed to slipped_NAME. Answers that stay right under a slip would show that the
  * cases cannot tell; but noise in the bits that the library does not look at has to leave them right. */
@@ -18,11 +18,11 @@ typedef struct slot {
     void *pointer;
 } slot;
 
-enum { FIELDS = 8 };
-static const int FIRST_BIT[FIELDS] = {0, 8, 16, 24, 32, 40, 48, 49};
-static const uint64_t LARGEST[FIELDS] = {255, 255, 255, 255, 255, 255, 1, 1};
+enum { FIELDS = 9 };
+static const int FIRST_BIT[FIELDS] = {0, 8, 16, 24, 32, 40, 48, 49, 56};
+static const uint64_t LARGEST[FIELDS] = {255, 255, 255, 255, 255, 255, 1, 1, 255};
 
-/* A code or a depth in a flag's place counts as true where it is not 0. */
+/* A code, a depth or an edition in a flag's place counts as true where it is not 0. */
 static uint64_t with_fields_exchanged(uint64_t word, int i, int j)
 {
     uint64_t again = 0;
@@ -41,11 +41,11 @@ static uint64_t reversed(uint64_t word)
     return again;
 }
 
-static uint64_t noise_from(int bit)
+static uint64_t noise_in(int first, int last)
 {
     static uint64_t state = 1;
     state = state * 6364136223846793005u + 1442695040888963407u;
-    return state >> bit << bit;
+    return state >> (63 - last + first) << first;
 }
 
 static void exchange(slot *a, slot *b)
@@ -55,7 +55,7 @@ static void exchange(slot *a, slot *b)
     *b = kept;
 }
 
-/* The setting's word is parameter 0 of every export. */
+/* The setting's word is parameter 0 of every export that takes one: all but the labels. */
 static void slip(const char *export_name, slot *s)
 {
     char name[32], what[16];
@@ -65,15 +65,28 @@ static void slip(const char *export_name, slot *s)
     if (strcmp(what, "parameters") == 0) exchange(&s[i], &s[j]);
     if (strcmp(what, "fields") == 0) s[0].number = with_fields_exchanged(s[0].number, i, j);
     if (strcmp(what, "reversed") == 0) s[0].number = reversed(s[0].number);
-    if (strcmp(what, "noise") == 0) s[0].number ^= noise_from(i);
+    if (strcmp(what, "noise") == 0) s[0].number ^= noise_in(i, j);
 }
 
 #define NUMBER(i) s[i].number
+#define BYTE(i) (uint8_t)s[i].number
 #define SAMPLE(i) (uint16_t)s[i].number
 #define LEVEL(i) (float *)s[i].pointer
 #define SOURCE(i) (const uint16_t *)s[i].pointer, s[i].number
 #define OUTPUT(i) (uint16_t *)s[i].pointer, s[i].number
 #define LENT(p, n) {n, (void *)(uintptr_t)p}
+
+#define LABEL_CALL(name)                                          \
+    uint8_t slipped_##name(uint8_t edition, uint8_t code);        \
+    uint8_t slipped_##name(uint8_t edition, uint8_t code)         \
+    {                                                             \
+        slot s[] = {{edition, 0}, {code, 0}};                     \
+        slip(#name, s);                                           \
+        return corkplover_##name(BYTE(0), BYTE(1));               \
+    }
+LABEL_CALL(primaries_label)
+LABEL_CALL(transfer_label)
+LABEL_CALL(matrix_label)
 
 #define PIXEL_CALL(name)                                                              \
     uint64_t slipped_##name(uint64_t word, uint16_t p, uint16_t q, uint16_t r);       \

@@ -9,9 +9,11 @@ enum { PAINT = 0xa5, STACK = 65536, MOST = 8192, WIDTH = 19, HEIGHT = 3, LENGTH 
 static unsigned char stack[STACK];
 static ucontext_t here, there;
 static const cork_setting SETTINGS[] = {
-    {1, 1, 0, 8, 8, 8, true, true},     {1, 1, 1, 8, 8, 8, true, true},   {1, 1, 9, 12, 10, 10, false, true},
-    {1, 1, 8, 8, 8, 8, false, false},   {1, 1, 8, 8, 8, 9, true, true},   {1, 1, 16, 10, 12, 12, true, true},
-    {1, 1, 17, 15, 16, 16, true, true}, {1, 1, 255, 8, 8, 8, true, true},
+    {1, 1, 0, 8, 8, 8, true, true, CORK_EDITION_2021},           {1, 1, 1, 8, 8, 8, true, true, CORK_EDITION_2021},
+    {1, 1, 9, 12, 10, 10, false, true, CORK_EDITION_PUBLISHED},  {1, 1, 8, 8, 8, 8, false, false, CORK_EDITION_PUBLISHED},
+    {1, 1, 8, 8, 8, 9, true, true, CORK_EDITION_DRAFT},          {1, 1, 15, 10, 12, 12, true, true, CORK_EDITION_DRAFT},
+    {1, 1, 16, 10, 12, 12, true, true, CORK_EDITION_PUBLISHED},  {1, 1, 17, 15, 16, 16, true, true, CORK_EDITION_PUBLISHED},
+    {1, 1, 255, 8, 8, 8, true, true, CORK_EDITION_PUBLISHED},    {1, 1, 1, 8, 8, 8, true, true, 0},
 };
 enum { COUNT = sizeof SETTINGS / sizeof *SETTINGS };
 
@@ -31,7 +33,11 @@ static void meter_pixel(void) { seen = cork_meter_pixel(setting, 1, 2, 3).answer
 static void meter_y(void) { seen = cork_meter_y(setting, 1).answer.packed; }
 static void meter_cb(void) { seen = cork_meter_cb(setting, 1).answer.packed; }
 static void meter_cr(void) { seen = cork_meter_cr(setting, 1).answer.packed; }
-static void labels(void) { seen = (uint64_t)cork_primaries_label(1) + cork_transfer_label(1) + cork_matrix_label(1); }
+static void labels(void)
+{
+    seen = (uint64_t)cork_primaries_label(setting.edition, 1) + cork_transfer_label(setting.edition, 1) +
+           cork_matrix_label(setting.edition, 1);
+}
 static void nothing(void) { seen = 0; }
 
 static size_t taken_by(void (*call)(void))

@@ -29,9 +29,9 @@ abbrev pub sizeWord : List ℕ → ℕ → ℕ → ReadNumber
 sizeWord line n fault = numberWord gap line n largest fault
 
 -- words 1 to 11
-unfoldable pub pictureWords : List ℕ → ReadPicture
-pictureWords line =
-    let w = settingWords gap line ranges in
+unfoldable pub pictureWords : List ℕ → ℕ → ReadPicture
+pictureWords line edition =
+    let w = settingWords edition gap line ranges in
     let width = sizeWord line 9 (w .fault) in
     let height = sizeWord line 10 (width .fault) in
     let stride = sizeWord line 11 (height .fault) in

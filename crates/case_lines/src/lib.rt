@@ -7,11 +7,11 @@ mod pictures;
 mod say;
 
 use meter::SampleKind;
-use request::CodeKind;
 use request::form;
 use request::form::Asked;
 use setting::Call;
 use setting::Way;
+use setting::label::CodeKind;
 use text::reading;
 
 // The byte between two words of a line.
@@ -30,42 +30,55 @@ fn asked(a: Asked) {
     }
 }
 
-fn on_pixel(line: &[u8], call: Call) {
-    asked(form::pixel_form(call, line, GAP, &RANGES));
+fn on_pixel(words: &[u8], edition: u8, call: Call) {
+    asked(form::pixel_form(call, edition, words, GAP, &RANGES));
 }
 
-fn on_sample(line: &[u8], kind: SampleKind) {
-    asked(form::sample_form(kind, line, GAP, &RANGES, 9));
+fn on_sample(words: &[u8], edition: u8, kind: SampleKind) {
+    asked(form::sample_form(kind, edition, words, GAP, &RANGES, 9));
 }
 
-fn on_label(line: &[u8], kind: CodeKind) {
-    asked(form::label_form(kind, line, GAP, 1));
+fn on_label(words: &[u8], edition: u8, kind: CodeKind) {
+    asked(form::label_form(kind, edition, words, GAP, 1));
 }
 
-fn on_line(line: &[u8]) {
-    match reading::place_at(line, GAP, 0, b"f r s m y b c p t x F R I") {
-        0 => on_pixel(line, Call::Convert(Way::Forward)),
-        1 => on_pixel(line, Call::Convert(Way::Reverse)),
-        2 => on_pixel(line, Call::ImageCheck),
-        3 => on_pixel(line, Call::Meter),
-        4 => on_sample(line, SampleKind::Y),
-        5 => on_sample(line, SampleKind::Cb),
-        6 => on_sample(line, SampleKind::Cr),
-        7 => on_label(line, CodeKind::Primaries),
-        8 => on_label(line, CodeKind::Transfer),
-        9 => on_label(line, CodeKind::Matrix),
-        10 => pictures::on_frame(line, Way::Forward),
-        11 => pictures::on_frame(line, Way::Reverse),
-        12 => pictures::on_image(line),
+// A line by what it asks, and its words from the edition on.
+fn on_words(asked: usize, words: &[u8], edition: u8) {
+    match asked {
+        0 => on_pixel(words, edition, Call::Convert(Way::Forward)),
+        1 => on_pixel(words, edition, Call::Convert(Way::Reverse)),
+        2 => on_pixel(words, edition, Call::ImageCheck),
+        3 => on_pixel(words, edition, Call::Meter),
+        4 => on_sample(words, edition, SampleKind::Y),
+        5 => on_sample(words, edition, SampleKind::Cb),
+        6 => on_sample(words, edition, SampleKind::Cr),
+        7 => on_label(words, edition, CodeKind::Primaries),
+        8 => on_label(words, edition, CodeKind::Transfer),
+        9 => on_label(words, edition, CodeKind::Matrix),
+        10 => pictures::on_frame(words, edition, Way::Forward),
+        11 => pictures::on_frame(words, edition, Way::Reverse),
+        12 => pictures::on_image(words, edition),
         _ => say::bad_line(),
     }
 }
 
+// Word 0 says what is asked, and word 1 is the number of the edition.
+fn on_line(line: &[u8]) {
+    let edition = form::number_word(line, GAP, 1, form::LARGEST_BYTE, form::CLEAR);
+    if edition.fault != form::CLEAR {
+        say::bad_line();
+        return;
+    }
+    let asked = reading::place_at(line, GAP, 0, b"f r s m y b c p t x F R I");
+    let number = edition.value as u8;
+    on_words(asked, reading::words_from(line, GAP, 1), number);
+}
+
 // Room for the text of all cases.
-pub fn room() -> [u8; 1000000]
-    ensures { λ r. ⌜ r ≡ replicate 1000000 0 ⌝ }
+pub fn room() -> [u8; 1200000]
+    ensures { λ r. ⌜ r ≡ replicate 1200000 0 ⌝ }
 {
-    [0; 1000000]
+    [0; 1200000]
 }
 
 // Every line.

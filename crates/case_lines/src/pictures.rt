@@ -1,5 +1,5 @@
-// Cases on whole frames and on images. Word 9 and those after it are the sizes; then come the planes, which are long, so they are read
-// forward from where they start, and not word by number.
+// Cases on whole frames and on images, by their words from the edition on. Word 9 and those after it are the sizes; then come the planes, which
+// are long, so they are read forward from where they start, and not word by number.
 ghost use mathlib.Core.Path.{_≡_};
 ghost use Prim.Native.Nat.{_≤_};
 ghost use lib.ListN.{length};
@@ -235,10 +235,10 @@ fn on_picture(line: &[u8], first: u8, request: PictureRequest) {
 }
 
 // Words 1 to 11: the setting, and the sizes that every picture has.
-fn picture_words(line: &[u8]) -> ReadPicture
-    ensures { λ r. ⌜ r ≡ pictureWords (now (line .entry)) ⌝ }
+fn picture_words(line: &[u8], edition: u8) -> ReadPicture
+    ensures { λ r. ⌜ r ≡ pictureWords (now (line .entry)) edition ⌝ }
 {
-    let w = form::setting_words(line, GAP, &RANGES);
+    let w = form::setting_words(edition, line, GAP, &RANGES);
     let setting = w.setting;
     let width = size_at(line, 9, w.fault);
     let height = size_at(line, 10, width.fault);
@@ -252,8 +252,8 @@ fn picture_words(line: &[u8]) -> ReadPicture
     }
 }
 
-pub fn on_frame(line: &[u8], way: Way) {
-    let p = picture_words(line);
+pub fn on_frame(line: &[u8], edition: u8, way: Way) {
+    let p = picture_words(line, edition);
     let output = size_at(line, 12, p.fault);
     if output.fault != form::CLEAR {
         say::bad_line();
@@ -269,8 +269,8 @@ pub fn on_frame(line: &[u8], way: Way) {
     on_picture(line, 13, PictureRequest::Convert(way, setting, size));
 }
 
-pub fn on_image(line: &[u8]) {
-    let p = picture_words(line);
+pub fn on_image(line: &[u8], edition: u8) {
+    let p = picture_words(line, edition);
     if p.fault != form::CLEAR {
         say::bad_line();
         return;

@@ -75,6 +75,6 @@ pub fn sample(request: Request, r: Refusal) {
     match request {
         Request::Pixel(call, s, _) => on_side(setting::reads(call), s, r),
         Request::Sample(_, s, _) => on_side(Side::Ycc, s, r),
-        Request::Label(_, _) => wording::meaning(r.number),
+        Request::Label(_, _, _) => wording::meaning(r.number),
     }
 }

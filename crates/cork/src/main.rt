@@ -4,16 +4,17 @@ mod output;
 mod saying;
 mod wording;
 
+ghost use mathlib.Core.Path.{_≡_};
 ghost use Prim.Native.Nat.{_≤_, _-_, min};
 ghost use lib.ListN.{length};
-ghost use Rattle.cork.specs.CommandLine.{mostWords, Words};
+ghost use Rattle.cork.specs.CommandLine.{mostWords, Words, editionSaid};
 use meter::SampleKind;
-use request::CodeKind;
 use request::form;
 use request::form::Asked;
 use request::form::Expected;
 use setting::Call;
 use setting::Way;
+use setting::label::CodeKind;
 use text::reading;
 
 // The byte between two words: no word can hold it.
@@ -25,58 +26,100 @@ const MOST_WORDS: usize = 20;
 // The names of the two ranges.
 const RANGES: [u8; 11] = *b"narrow full";
 
-fn asked(words: &[u8], a: Asked) {
+// The names of the editions, from number 1 on, and the number of the one that is meant where none is named.
+const EDITIONS: [u8; 20] = *b"2021 draft published";
+
+const PUBLISHED: u8 = 3;
+
+// The edition that a request is read by, and how many words named it.
+struct Said {
+    edition: u8,
+    words: u8,
+}
+
+// Word 1, where it names an edition.
+fn edition_said(words: &[u8], names: &[u8]) -> Said
+    ensures { λ r. ⌜ r ≡ editionSaid (now (words .entry)) (now (names .entry)) ⌝ }
+{
+    let place = reading::place_at(words, GAP, 1, names);
+    if place < 3 {
+        return Said {
+            edition: place as u8 + 1,
+            words: 1,
+        };
+    }
+    Said {
+        edition: PUBLISHED,
+        words: 0,
+    }
+}
+
+fn asked(words: &[u8], said: Said, a: Asked) {
     match a {
         Asked::For(request) => saying::answer(request, request::ask::ask(request)),
-        Asked::Fault { word, expected } => saying::fault(words, word, expected),
+        Asked::Fault { word, expected } => saying::fault(words, said.words, word, expected),
     }
 }
 
-fn on_pixel(words: &[u8], call: Call) {
-    asked(words, form::pixel_form(call, words, GAP, &RANGES));
-}
-
-fn on_sample(words: &[u8], kind: SampleKind) {
-    asked(words, form::sample_form(kind, words, GAP, &RANGES, 10));
-}
-
-fn on_code(words: &[u8], kind: CodeKind) {
-    asked(words, form::label_form(kind, words, GAP, 2));
-}
-
-fn on_meter(words: &[u8]) {
-    match reading::place_at(words, GAP, 9, b"y cb cr") {
-        0 => on_sample(words, SampleKind::Y),
-        1 => on_sample(words, SampleKind::Cb),
-        2 => on_sample(words, SampleKind::Cr),
-        _ => on_pixel(words, Call::Meter),
-    }
-}
-
-fn on_label(words: &[u8]) {
-    match reading::place_at(words, GAP, 1, b"primaries transfer matrix") {
-        0 => on_code(words, CodeKind::Primaries),
-        1 => on_code(words, CodeKind::Transfer),
-        2 => on_code(words, CodeKind::Matrix),
-        _ => saying::fault(words, 1, Expected::CodeKind),
-    }
-}
-
-fn on_words(words: &[u8]) {
-    let verb = reading::place_at(
+fn on_pixel(words: &[u8], said: Said, call: Call) {
+    asked(
         words,
+        said,
+        form::pixel_form(call, said.edition, words, GAP, &RANGES),
+    );
+}
+
+fn on_sample(words: &[u8], said: Said, kind: SampleKind) {
+    asked(
+        words,
+        said,
+        form::sample_form(kind, said.edition, words, GAP, &RANGES, 10),
+    );
+}
+
+fn on_code(words: &[u8], said: Said, kind: CodeKind) {
+    asked(
+        words,
+        said,
+        form::label_form(kind, said.edition, words, GAP, 2),
+    );
+}
+
+fn on_meter(words: &[u8], said: Said) {
+    match reading::place_at(words, GAP, 9, b"y cb cr") {
+        0 => on_sample(words, said, SampleKind::Y),
+        1 => on_sample(words, said, SampleKind::Cb),
+        2 => on_sample(words, said, SampleKind::Cr),
+        _ => on_pixel(words, said, Call::Meter),
+    }
+}
+
+fn on_label(words: &[u8], said: Said) {
+    match reading::place_at(words, GAP, 1, b"primaries transfer matrix") {
+        0 => on_code(words, said, CodeKind::Primaries),
+        1 => on_code(words, said, CodeKind::Transfer),
+        2 => on_code(words, said, CodeKind::Matrix),
+        _ => saying::fault(words, said.words, 1, Expected::CodeKind),
+    }
+}
+
+fn on_words(all: &[u8]) {
+    let verb = reading::place_at(
+        all,
         GAP,
         0,
         b"forward reverse source meter label help --help -h",
     );
+    let said = edition_said(all, &EDITIONS);
+    let words = reading::words_from(all, GAP, said.words);
     match verb {
-        0 => on_pixel(words, Call::Convert(Way::Forward)),
-        1 => on_pixel(words, Call::Convert(Way::Reverse)),
-        2 => on_pixel(words, Call::ImageCheck),
-        3 => on_meter(words),
-        4 => on_label(words),
+        0 => on_pixel(words, said, Call::Convert(Way::Forward)),
+        1 => on_pixel(words, said, Call::Convert(Way::Reverse)),
+        2 => on_pixel(words, said, Call::ImageCheck),
+        3 => on_meter(words, said),
+        4 => on_label(words, said),
         5..=7 => wording::usage(),
-        _ => saying::fault(words, 0, Expected::Verb),
+        _ => saying::fault(all, 0, 0, Expected::Verb),
     }
 }
 

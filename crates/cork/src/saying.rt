@@ -17,10 +17,12 @@ use setting::Way;
 use setting::label::Label;
 use text::reading;
 
-// The word at which reading stopped, and what was expected of it.
-pub fn fault(words: &[u8], word: u8, expected: Expected) {
+// The word at which reading stopped, counted with the words before these, and what was expected of it. Where none stands before them, word 1 could
+// have named an edition.
+pub fn fault(words: &[u8], before: u8, word: u8, expected: Expected) {
+    let place = before as u64 + word as u64;
     say(b"word ");
-    number(word as u64 + 1);
+    number(place + 1);
     if reading::has_word(words, GAP, word) {
         say(b", '");
         say(reading::word_at(words, GAP, word));
@@ -34,6 +36,10 @@ pub fn fault(words: &[u8], word: u8, expected: Expected) {
         say(b" is missing");
     }
     say(b"; expected: ");
+    if place == 1 {
+        wording::editions();
+        say(b", or ");
+    }
     wording::expected(expected);
     say(b"\n");
 }

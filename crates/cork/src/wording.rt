@@ -4,21 +4,27 @@ use request::form::Expected;
 
 pub fn usage() {
     say(b"cork: one pixel of the colour converter box\n\n");
-    say(b"  cork forward SETTING R G B      RGB to luma and chroma\n");
-    say(b"  cork reverse SETTING Y CB CR    luma and chroma to RGB\n");
-    say(
-        b"  cork source SETTING Y CB CR     does some RGB pixel convert to it? (lossless settings)\n",
-    );
-    say(b"  cork meter SETTING Y CB CR      the three levels (luma matrices)\n");
-    say(b"  cork meter SETTING y|cb|cr SAMPLE\n");
-    say(b"  cork label primaries|transfer|matrix CODE\n");
-    say(b"  cork help                       these lines, as without any word\n\n");
+    say(b"  cork forward [EDITION] SETTING R G B      RGB to luma and chroma\n");
+    say(b"  cork reverse [EDITION] SETTING Y CB CR    luma and chroma to RGB\n");
+    say(b"  cork source [EDITION] SETTING Y CB CR     has it an RGB source? (lossless settings)\n");
+    say(b"  cork meter [EDITION] SETTING Y CB CR      the three levels (luma matrices)\n");
+    say(b"  cork meter [EDITION] SETTING y|cb|cr SAMPLE\n");
+    say(b"  cork label [EDITION] primaries|transfer|matrix CODE\n");
+    say(b"  cork help                                 these lines, as without any word\n\n");
+    say(b"EDITION is the text of H.273 that the label was written by: 2021, draft or published.\n");
+    say(b"Where none is given, published is meant. Matrix codes differ in them from 15 on.\n\n");
     say(b"SETTING is eight words: primaries, transfer and matrix codes (0 to 255), RGB depth,\n");
     say(
         b"Y depth and C depth in bits, then full or narrow for RGB and for YCbCr. For example:\n\n",
     );
-    say(b"  cork forward 1 1 8 8 8 9 full full 255 0 0\n\n");
+    say(b"  cork forward 1 1 8 8 8 9 full full 255 0 0\n");
+    say(b"  cork forward draft 1 1 15 8 10 10 full full 255 0 0\n\n");
     say(b"Status: 0 for an answer, 1 for a refusal, 2 for words that were not understood.\n");
+}
+
+// The names of the editions.
+pub fn editions() {
+    say(b"2021, draft or published");
 }
 
 // What was expected of a word.
@@ -46,24 +52,37 @@ pub fn expected(e: Expected) {
     }
 }
 
+// What may be wrong with a code that the editions do not have in common.
+fn old_label() {
+    say(b", or name the edition of an old label");
+}
+
 // What a refusal means, and what to do about it.
 pub fn meaning(n: u8) {
     match n {
-        1 => say(
-            b"this matrix code is reserved and means nothing yet; use the code of your material",
-        ),
+        1 => {
+            say(b"this matrix code is reserved in this edition; use the code of your material");
+            old_label();
+        }
         2 => say(b"the matrix is unspecified; name the real one"),
-        3 => say(b"this matrix is known but not served; choose another or another box"),
+        3 => {
+            say(b"this matrix is known but not served; choose another or another box");
+            old_label();
+        }
         4 => say(b"this primaries code is reserved; correct the label"),
         5 => say(b"this transfer code is reserved; correct the label"),
         6 => say(b"a depth is outside 8 to 16 bits, or above 12 with a luma matrix"),
-        7 => say(b"depths or ranges do not agree with this matrix; see the rules for what it asks"),
+        7 => {
+            say(b"depths or ranges do not agree with this matrix; see the rules for what it asks");
+            old_label();
+        }
         8 => say(
             b"width or height is outside 1 to 8192, or a stride is below the width or above 16384",
         ),
         9 => say(b"a plane is too short for its size and stride"),
         10 => say(b"a sample is too large for its depth"),
         11 => say(b"the meter needs a luma matrix, and the source check a lossless setting"),
+        12 => say(b"there is no such edition; name 2021, draft or published"),
         _ => say(b"this number has no words here"),
     }
 }

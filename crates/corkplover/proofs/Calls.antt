@@ -4,15 +4,12 @@
 use mathlib.Core.Path.{_≡_}
 use denote.Ref.{now}
 use lib.ListN.{length}
-use Rattle.setting.specs.Label.{primariesLabel, transferLabel, matrixLabel}
 use Rattle.setting.specs.declared.Way.the-variants.{Forward, Reverse}
 use Rattle.planes.specs.Picture.{picture}
 use Rattle.frame.specs.Frame.{inputPicture, outputLayout, FrameAfter}
 use Rattle.image_check.specs.Image.{imageAnswer}
-use Rattle.corkplover.specs.Answers.{pixelAnswer, sourceAnswer, reading, levelsAnswer}
-use Rattle.corkplover.proofs.labels.primaries_label.Reads as primaries-label
-use Rattle.corkplover.proofs.labels.transfer_label.Reads as transfer-label
-use Rattle.corkplover.proofs.labels.matrix_label.Reads as matrix-label
+use Rattle.corkplover.specs.Answers.{labelAnswer, pixelAnswer, sourceAnswer, reading, levelsAnswer}
+use Rattle.corkplover.proofs.labels.label.Reads as label
 use Rattle.corkplover.proofs.pixels.forward_pixel.Reads as forward-pixel
 use Rattle.corkplover.proofs.pixels.reverse_pixel.Reads as reverse-pixel
 use Rattle.corkplover.proofs.pixels.source_pixel.Reads as source-pixel
@@ -22,14 +19,8 @@ use Rattle.corkplover.proofs.frames.forward_frame.Reads as forward-fram
 use Rattle.corkplover.proofs.frames.reverse_frame.Reads as reverse-frame
 use Rattle.corkplover.proofs.frames.image_check.Reads as image-check
 
-pub primaries-label-answers : (κs code r t : _) → primaries-label.Post κs (code, tt) r t → r ≡ primariesLabel code
-primaries-label-answers κs code r t h = h
-
-pub transfer-label-answers : (κs code r t : _) → transfer-label.Post κs (code, tt) r t → r ≡ transferLabel code
-transfer-label-answers κs code r t h = h
-
-pub matrix-label-answers : (κs code r t : _) → matrix-label.Post κs (code, tt) r t → r ≡ matrixLabel code
-matrix-label-answers κs code r t h = h
+pub label-answers : (κs kind edition code r t : _) → label.Post κs (kind, (edition, (code, tt))) r t → r ≡ labelAnswer kind edition code
+label-answers κs kind edition code r t h = h
 
 pub forward-pixel-answers : (κs s p r t : _) → forward-pixel.Post κs (s, (p, tt)) r t → r ≡ pixelAnswer Forward s p
 forward-pixel-answers κs s p r t h = h

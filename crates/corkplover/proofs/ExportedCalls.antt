@@ -1,14 +1,14 @@
 -- The same of the exported functions, whose setting and answer are one number each.
 use mathlib.Core.Path.{_≡_}
 use denote.Ref.{now}
-use Rattle.setting.specs.Label.{primariesLabel, transferLabel, matrixLabel, labelNumber}
+use Rattle.setting.specs.declared.label.CodeKind.the-variants.{Primaries, Transfer, Matrix}
 use Rattle.setting.specs.declared.Way.the-variants.{Forward, Reverse}
 use Rattle.meter.specs.declared.SampleKind.the-variants.{Y, Cb, Cr}
 use Rattle.planes.specs.Picture.{picture}
 use Rattle.image_check.specs.Image.{imageAnswer}
 use Rattle.corkplover.specs.After.{ReadingAfter, LevelsAfter, FrameExportAfter}
-use Rattle.corkplover.specs.Answers.{pixelAnswer}
-use Rattle.corkplover.specs.Packing.{settingIn, pixelFrom, sizes, packedPixel, packedImage}
+use Rattle.corkplover.specs.Answers.{labelAnswer, pixelAnswer}
+use Rattle.corkplover.specs.Packing.{settingIn, pixelFrom, sizes, packedLabel, packedPixel, packedImage}
 use Rattle.corkplover.proofs.exports.corkplover_primaries_label.Reads as primaries-label
 use Rattle.corkplover.proofs.exports.corkplover_transfer_label.Reads as transfer-label
 use Rattle.corkplover.proofs.exports.corkplover_matrix_label.Reads as matrix-label
@@ -22,14 +22,17 @@ use Rattle.corkplover.proofs.frame_exports.corkplover_forward_frame.Rea
 use Rattle.corkplover.proofs.frame_exports.corkplover_reverse_frame.Reads as reverse-frame
 use Rattle.corkplover.proofs.frame_exports.corkplover_image_check.Reads as image-check
 
-pub corkplover-primaries-label-answers : (κs code x t : _) → primaries-label.Post κs (code, tt) x t → x ≡ labelNumber (primariesLabel code)
-corkplover-primaries-label-answers κs code x t h = h
+pub corkplover-primaries-label-answers : (κs edition code x t : _) → primaries-label.Post κs (edition, (code, tt)) x t
+    → x ≡ packedLabel (labelAnswer Primaries edition code)
+corkplover-primaries-label-answers κs edition code x t h = h
 
-pub corkplover-transfer-label-answers : (κs code x t : _) → transfer-label.Post κs (code, tt) x t → x ≡ labelNumber (transferLabel code)
-corkplover-transfer-label-answers κs code x t h = h
+pub corkplover-transfer-label-answers : (κs edition code x t : _) → transfer-label.Post κs (edition, (code, tt)) x t
+    → x ≡ packedLabel (labelAnswer Transfer edition code)
+corkplover-transfer-label-answers κs edition code x t h = h
 
-pub corkplover-matrix-label-answers : (κs code x t : _) → matrix-label.Post κs (code, tt) x t → x ≡ labelNumber (matrixLabel code)
-corkplover-matrix-label-answers κs code x t h = h
+pub corkplover-matrix-label-answers : (κs edition code x t : _) → matrix-label.Post κs (edition, (code, tt)) x t
+    → x ≡ packedLabel (labelAnswer Matrix edition code)
+corkplover-matrix-label-answers κs edition code x t h = h
 
 pub corkplover-forward-pixel-answers : (κs word r g b x t : _) → forward-pixel.Post κs (word, (r, (g, (b, tt)))) x t
     → x ≡ packedPixel (pixelAnswer Forward (settingIn word) (pixelFrom r g b))

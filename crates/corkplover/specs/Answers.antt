@@ -1,17 +1,25 @@
--- The answers of the calls on a pixel and on a sample.
+-- The answers of the calls on a code, on a pixel and on a sample.
 use mathlib.Core.Bool.{cond}
 use Prim.Native.Nat.{ℕ}
+use Rattle.refusal.specs.Rules.{numbered}
 use Rattle.sample.specs.declared.Pixel.{Pixel}
+use Rattle.setting.specs.Edition.{editionOf}
+use Rattle.setting.specs.Label.{labelFor}
 use Rattle.setting.specs.declared.Call.the-variants as call
 use Rattle.setting.specs.declared.Setting.{Setting}
 use Rattle.setting.specs.declared.admission.Admission.{Admission}
 use Rattle.setting.specs.declared.admission.Admission.the-variants as admission
+use Rattle.setting.specs.declared.edition.EditionChecked.{EditionChecked}
+use Rattle.setting.specs.declared.edition.EditionChecked.the-variants as edition
+use Rattle.setting.specs.declared.label.CodeKind.{CodeKind}
 use Rattle.meter.specs.Level.{levelOf, levelsOf}
 use Rattle.meter.specs.declared.SampleKind.{SampleKind}
 use Rattle.plan.specs.Conversion.{convert}
 use Rattle.plan.specs.Source.{hasSource}
 use Rattle.setting.specs.declared.Way.{Way}
 use Rattle.admit.specs.Rules.{pixelAdmission, sampleAdmission}
+use Rattle.corkplover.specs.declared.labels.LabelAnswer.{LabelAnswer}
+use Rattle.corkplover.specs.declared.labels.LabelAnswer.the-variants as label
 use Rattle.corkplover.specs.declared.pixels.PixelAnswer.{PixelAnswer}
 use Rattle.corkplover.specs.declared.pixels.PixelAnswer.the-variants as pixel
 use Rattle.corkplover.specs.declared.pixels.SourceAnswer.{SourceAnswer}
@@ -20,6 +28,14 @@ use Rattle.corkplover.specs.declared.meters.Reading.{Reading}
 use Rattle.corkplover.specs.declared.meters.Reading.the-variants as meter
 use Rattle.corkplover.specs.declared.meters.LevelsAnswer.{LevelsAnswer}
 use Rattle.corkplover.specs.declared.meters.LevelsAnswer.the-variants as levels
+
+-- the label of a code, where the edition is one
+abbrev pub labelBy : CodeKind → ℕ → EditionChecked → LabelAnswer
+labelBy k code (edition.Edition e) = label.Labelled (labelFor k e code)
+labelBy k code edition.Unknown = label.Refused (numbered 12)
+
+unfoldable pub labelAnswer : CodeKind → ℕ → ℕ → LabelAnswer
+labelAnswer k n code = labelBy k code (editionOf n)
 
 -- a pixel either way
 abbrev pub convertedBy : Way → Pixel → Admission → PixelAnswer

@@ -9,12 +9,15 @@ use lib.Ieee.{Float, fin}
 use Rattle.sample.specs.declared.Pixel.{Pixel}
 use Rattle.meter.specs.declared.PixelLevels.{PixelLevels}
 use Rattle.refusal.specs.declared.Refusal.{Refusal}
+use Rattle.setting.specs.Label.{labelNumber}
 use Rattle.setting.specs.declared.Setting.{Setting}
 use Rattle.frame.specs.declared.Size.{Size}
 use Rattle.frame.specs.declared.FrameAnswer.{FrameAnswer}
 use Rattle.frame.specs.declared.FrameAnswer.the-variants as frame
 use Rattle.image_check.specs.declared.ImageAnswer.{ImageAnswer}
 use Rattle.image_check.specs.declared.ImageAnswer.the-variants as image
+use Rattle.corkplover.specs.declared.labels.LabelAnswer.{LabelAnswer}
+use Rattle.corkplover.specs.declared.labels.LabelAnswer.the-variants as label
 use Rattle.corkplover.specs.declared.pixels.PixelAnswer.{PixelAnswer}
 use Rattle.corkplover.specs.declared.pixels.PixelAnswer.the-variants as pixel
 use Rattle.corkplover.specs.declared.meters.Reading.{Reading}
@@ -80,7 +83,7 @@ abbrev pub crIn : LevelsAnswer → Float
 crIn a = levelsIn a .cr
 
 -- A setting in one word: a byte each for primaries, transfer, matrix and the depths of RGB, Y and C, from the lowest byte up, then a bit each
--- for full RGB and full YCbCr. What stands above them, from bit 50, is not looked at.
+-- for full RGB and full YCbCr, and in the highest byte the edition. What stands between, in bits 50 to 55, is not looked at.
 unfoldable pub settingIn : ℕ → Setting
 settingIn word =
     record {
@@ -92,17 +95,19 @@ settingIn word =
       «c_depth» = word / 1099511627776 % 256;
       «rgb_full» = eqb (word / 281474976710656 % 2) 1;
       «ycc_full» = eqb (word / 562949953421312 % 2) 1;
+      edition = word / 72057594037927936 % 256;
     }
 
--- and a setting put into one, with anything above it
+-- and a setting put into one, with anything in the bits between
 abbrev pub bit : Bool → ℕ
 bit true = 1
 bit false = 0
 
 abbrev pub settingWord : Setting → ℕ → ℕ
-settingWord s above =
+settingWord s between =
     s .primaries + s .transfer * 256 + s .matrix * 65536 + s .«rgb_depth» * 16777216 + s .«y_depth» * 4294967296 + s .«c_depth» * 1099511627776
-    + bit (s .«rgb_full») * 281474976710656 + bit (s .«ycc_full») * 562949953421312 + above * 1125899906842624
+    + bit (s .«rgb_full») * 281474976710656 + bit (s .«ycc_full») * 562949953421312 + between * 1125899906842624
+    + s .edition * 72057594037927936
 
 -- a pixel of three parameters, and sizes of four
 abbrev pub pixelFrom : ℕ → ℕ → ℕ → Pixel
@@ -121,3 +126,8 @@ abbrev pub packedImage : ImageAnswer → ℕ
 packedImage image.Yes = 0
 packedImage (image.NoSource place) = packed 0 1 (place .row) (place .column) 0
 packedImage (image.Refused r) = packedRefusal r
+
+-- a label is a byte: its own number, or that of the refusal
+abbrev pub packedLabel : LabelAnswer → ℕ
+packedLabel (label.Labelled l) = labelNumber l
+packedLabel (label.Refused r) = r .number

@@ -1,11 +1,11 @@
 // The calls for C and for every language that can call C: numbered numbers and slices. A setting is one number, and so is an answer
 // (specs/Packing.antt).
 ghost use mathlib.Core.Path.{_≡_};
-ghost use Rattle.setting.specs.Label.{primariesLabel, transferLabel, matrixLabel, labelNumber};
+ghost use Rattle.setting.specs.declared.label.CodeKind.the-variants.{Primaries, Transfer, Matrix};
 ghost use Rattle.setting.specs.declared.Way.the-variants.{Forward, Reverse};
 ghost use Rattle.meter.specs.declared.SampleKind.the-variants.{Y, Cb, Cr};
-ghost use Rattle.corkplover.specs.Answers.{pixelAnswer};
-ghost use Rattle.corkplover.specs.Packing.{settingIn, pixelFrom, packedPixel};
+ghost use Rattle.corkplover.specs.Answers.{labelAnswer, pixelAnswer};
+ghost use Rattle.corkplover.specs.Packing.{settingIn, pixelFrom, packedLabel, packedPixel};
 ghost use Rattle.corkplover.specs.After.{ReadingAfter, LevelsAfter};
 use crate::labels;
 use crate::meters;
@@ -14,26 +14,27 @@ use crate::packing::pixel_from;
 use crate::packing::setting_in;
 use crate::pixels;
 use meter::SampleKind;
+use setting::label::CodeKind;
 
 #[no_mangle]
-pub extern "C" fn corkplover_primaries_label(code: u8) -> u8
-    ensures { λ r. ⌜ r ≡ labelNumber (primariesLabel code) ⌝ }
+pub extern "C" fn corkplover_primaries_label(edition: u8, code: u8) -> u8
+    ensures { λ r. ⌜ r ≡ packedLabel (labelAnswer Primaries edition code) ⌝ }
 {
-    packing::label_number(labels::primaries_label(code))
+    packing::pack_label(labels::label(CodeKind::Primaries, edition, code))
 }
 
 #[no_mangle]
-pub extern "C" fn corkplover_transfer_label(code: u8) -> u8
-    ensures { λ r. ⌜ r ≡ labelNumber (transferLabel code) ⌝ }
+pub extern "C" fn corkplover_transfer_label(edition: u8, code: u8) -> u8
+    ensures { λ r. ⌜ r ≡ packedLabel (labelAnswer Transfer edition code) ⌝ }
 {
-    packing::label_number(labels::transfer_label(code))
+    packing::pack_label(labels::label(CodeKind::Transfer, edition, code))
 }
 
 #[no_mangle]
-pub extern "C" fn corkplover_matrix_label(code: u8) -> u8
-    ensures { λ r. ⌜ r ≡ labelNumber (matrixLabel code) ⌝ }
+pub extern "C" fn corkplover_matrix_label(edition: u8, code: u8) -> u8
+    ensures { λ r. ⌜ r ≡ packedLabel (labelAnswer Matrix edition code) ⌝ }
 {
-    packing::label_number(labels::matrix_label(code))
+    packing::pack_label(labels::label(CodeKind::Matrix, edition, code))
 }
 
 #[no_mangle]

@@ -11,7 +11,7 @@ use image_check::ImageAnswer;
 use setting::Setting;
 use setting::Way;
 
-// R, G, B to Y, Cb, Cr. Refusals 1 to 7, 8, 9 on all six planes, then 10.
+// R, G, B to Y, Cb, Cr. Refusals 12, 1 to 7, 8, 9 on all six planes, then 10.
 pub fn forward_frame(
     s: Setting,
     size: Size,
@@ -29,7 +29,7 @@ pub fn forward_frame(
     frame::convert_frame(Way::Forward, s, size, r, g, b, y, cb, cr)
 }
 
-// Y, Cb, Cr to R, G, B. Refusals 1 to 7, 8, 9 on all six planes, then 10.
+// Y, Cb, Cr to R, G, B. Refusals 12, 1 to 7, 8, 9 on all six planes, then 10.
 pub fn reverse_frame(
     s: Setting,
     size: Size,
@@ -47,7 +47,7 @@ pub fn reverse_frame(
     frame::convert_frame(Way::Reverse, s, size, y, cb, cr, r, g, b)
 }
 
-// Whether a picture of Y, Cb, Cr comes from some RGB picture within depth, or else the first pixel that does not. Refusals 1 to 7, 11,
+// Whether a picture of Y, Cb, Cr comes from some RGB picture within depth, or else the first pixel that does not. Refusals 12, 1 to 7, 11,
 // then 8, 9 and 10 on that one side.
 pub fn image_check(
     s: Setting,

@@ -1,22 +1,26 @@
-// A label's answer for each kind of code point: assigned, unspecified or reserved.
+// A label's answer for a code point of any kind: assigned, unspecified or reserved in an edition, or refusal 12 where that is none.
 ghost use mathlib.Core.Path.{_≡_};
-ghost use Rattle.setting.specs.Label.{primariesLabel, transferLabel, matrixLabel};
+ghost use Rattle.corkplover.specs.Answers.{labelAnswer};
+use refusal::Refusal;
+use setting::edition;
+use setting::edition::EditionChecked;
+use setting::label::CodeKind;
 use setting::label::Label;
 
-pub fn primaries_label(code: u8) -> Label
-    ensures { λ r. ⌜ r ≡ primariesLabel code ⌝ }
-{
-    setting::label::primaries_label(code)
+pub enum LabelAnswer {
+    Labelled(Label),
+    Refused(Refusal),
 }
 
-pub fn transfer_label(code: u8) -> Label
-    ensures { λ r. ⌜ r ≡ transferLabel code ⌝ }
+pub fn label(kind: CodeKind, edition: u8, code: u8) -> LabelAnswer
+    ensures { λ r. ⌜ r ≡ labelAnswer kind edition code ⌝ }
 {
-    setting::label::transfer_label(code)
-}
-
-pub fn matrix_label(code: u8) -> Label
-    ensures { λ r. ⌜ r ≡ matrixLabel code ⌝ }
-{
-    setting::label::matrix_label(code)
+    match edition::edition_of(edition) {
+        EditionChecked::Edition(edition) => {
+            LabelAnswer::Labelled(setting::label::label_for(kind, edition, code))
+        }
+        EditionChecked::Unknown => {
+            LabelAnswer::Refused(Refusal::numbered(Refusal::UNKNOWN_EDITION))
+        }
+    }
 }

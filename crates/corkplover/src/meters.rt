@@ -1,4 +1,4 @@
-// The meter: what a sample, or the three of a pixel, stands for. Refusals 1 to 7, 11, then 10 with the plane's number.
+// The meter: what a sample, or the three of a pixel, stands for. Refusals 12, 1 to 7, 11, then 10 with the plane's number.
 ghost use mathlib.Core.Path.{_≡_};
 ghost use Rattle.corkplover.specs.Answers.{reading, levelsAnswer};
 use meter::PixelLevels;

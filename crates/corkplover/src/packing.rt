@@ -1,7 +1,8 @@
 // Settings and answers as one number each, for callers in other languages.
 ghost use mathlib.Core.Path.{_≡_};
 ghost use Rattle.setting.specs.Label.{labelNumber};
-ghost use Rattle.corkplover.specs.Packing.{packed, packedRefusal, packedPixel, packedReading, packedLevels, levelIn, levelsIn, packedFrame, packedImage, settingIn, pixelFrom, sizes};
+ghost use Rattle.corkplover.specs.Packing.{packed, packedLabel, packedRefusal, packedPixel, packedReading, packedLevels, levelIn, levelsIn, packedFrame, packedImage, settingIn, pixelFrom, sizes};
+use crate::labels::LabelAnswer;
 use crate::meters::LevelsAnswer;
 use crate::meters::Reading;
 use crate::pixels::PixelAnswer;
@@ -83,7 +84,7 @@ pub fn levels_in(answer: LevelsAnswer) -> PixelLevels
     }
 }
 
-// The setting that a word holds. Bits 50 to 63 are not looked at.
+// The setting that a word holds. Bits 50 to 55 are not looked at.
 pub fn setting_in(word: u64) -> Setting
     ensures { λ r. ⌜ r ≡ settingIn word ⌝ }
 {
@@ -95,6 +96,7 @@ pub fn setting_in(word: u64) -> Setting
     let c_depth = (word / 1099511627776 % 256) as u8;
     let rgb_full = word / 281474976710656 % 2 == 1;
     let ycc_full = word / 562949953421312 % 2 == 1;
+    let edition = (word / 72057594037927936 % 256) as u8;
     Setting {
         primaries,
         transfer,
@@ -104,6 +106,7 @@ pub fn setting_in(word: u64) -> Setting
         c_depth,
         rgb_full,
         ycc_full,
+        edition,
     }
 }
 
@@ -145,12 +148,21 @@ pub fn size_of(width: usize, height: usize, sourcestride: usize, outputstride: u
     }
 }
 
-pub fn label_number(label: Label) -> u8
+fn label_number(label: Label) -> u8
     ensures { λ r. ⌜ r ≡ labelNumber label ⌝ }
 {
     match label {
         Label::Assigned => 0,
         Label::Unspecified => 1,
         Label::Reserved => 2,
+    }
+}
+
+pub fn pack_label(answer: LabelAnswer) -> u8
+    ensures { λ r. ⌜ r ≡ packedLabel answer ⌝ }
+{
+    match answer {
+        LabelAnswer::Labelled(label) => label_number(label),
+        LabelAnswer::Refused(refusal) => refusal.number,
     }
 }

@@ -32,21 +32,21 @@ fn convert_pixel(way: Way, s: Setting, p: Pixel) -> PixelAnswer
     }
 }
 
-// R, G, B to Y, Cb, Cr. Refusals 1 to 7, then 10.
+// R, G, B to Y, Cb, Cr. Refusals 12, 1 to 7, then 10.
 pub fn forward_pixel(s: Setting, p: Pixel) -> PixelAnswer
     ensures { λ r. ⌜ r ≡ pixelAnswer Forward s p ⌝ }
 {
     convert_pixel(Way::Forward, s, p)
 }
 
-// Y, Cb, Cr to R, G, B. Refusals 1 to 7, then 10.
+// Y, Cb, Cr to R, G, B. Refusals 12, 1 to 7, then 10.
 pub fn reverse_pixel(s: Setting, p: Pixel) -> PixelAnswer
     ensures { λ r. ⌜ r ≡ pixelAnswer Reverse s p ⌝ }
 {
     convert_pixel(Way::Reverse, s, p)
 }
 
-// Whether some RGB pixel within depth converts to a pixel of Y, Cb, Cr. Refusals 1 to 7, 11, then 10.
+// Whether some RGB pixel within depth converts to a pixel of Y, Cb, Cr. Refusals 12, 1 to 7, 11, then 10.
 pub fn source_pixel(s: Setting, p: Pixel) -> SourceAnswer
     ensures { λ r. ⌜ r ≡ sourceAnswer s p ⌝ }
 {

@@ -3,9 +3,7 @@
 -- result, and `s` has, parameter by parameter, what is there when the call returns.
 use mathlib.Core.Path.{_≡_}
 use denote.Ref.{now}
-use Rattle.corkplover.proofs.labels.primaries_label.Reads as primaries-label
-use Rattle.corkplover.proofs.labels.transfer_label.Reads as transfer-label
-use Rattle.corkplover.proofs.labels.matrix_label.Reads as matrix-label
+use Rattle.corkplover.proofs.labels.label.Reads as label
 use Rattle.corkplover.proofs.pixels.forward_pixel.Reads as forward-pixel
 use Rattle.corkplover.proofs.pixels.reverse_pixel.Reads as reverse-pixel
 use Rattle.corkplover.proofs.pixels.source_pixel.Reads as source-pixel
@@ -16,23 +14,11 @@ use Rattle.corkplover.proofs.frames.forward_frame.Reads as forward-frame
 use Rattle.corkplover.proofs.frames.reverse_frame.Reads as reverse-frame
 use Rattle.promises.proofs.Once.{once, once-all}
 
-pub primaries-label-asks-nothing : (κs : _) (a : _) → primaries-label.Pre κs a
-primaries-label-asks-nothing κs a = tt
+pub label-asks-nothing : (κs : _) (a : _) → label.Pre κs a
+label-asks-nothing κs a = tt
 
-pub primaries-label-once : (κs : _) (a : _) (r r' : _) (s s' : _) → primaries-label.Post κs a r s → primaries-label.Post κs a r' s' → r ≡ r'
-primaries-label-once κs a r r' s s' = once
-
-pub transfer-label-asks-nothing : (κs : _) (a : _) → transfer-label.Pre κs a
-transfer-label-asks-nothing κs a = tt
-
-pub transfer-label-once : (κs : _) (a : _) (r r' : _) (s s' : _) → transfer-label.Post κs a r s → transfer-label.Post κs a r' s' → r ≡ r'
-transfer-label-once κs a r r' s s' = once
-
-pub matrix-label-asks-nothing : (κs : _) (a : _) → matrix-label.Pre κs a
-matrix-label-asks-nothing κs a = tt
-
-pub matrix-label-once : (κs : _) (a : _) (r r' : _) (s s' : _) → matrix-label.Post κs a r s → matrix-label.Post κs a r' s' → r ≡ r'
-matrix-label-once κs a r r' s s' = once
+pub label-once : (κs : _) (a : _) (r r' : _) (s s' : _) → label.Post κs a r s → label.Post κs a r' s' → r ≡ r'
+label-once κs a r r' s s' = once
 
 pub forward-pixel-asks-nothing : (κs : _) (a : _) → forward-pixel.Pre κs a
 forward-pixel-asks-nothing κs a = tt

@@ -19,7 +19,7 @@ pub fields : (number second a b c : ℕ) → number < 256 → second < 256 → a
 fields number second a b c h k l m = omega arith
 
 -- the numbers of a word that holds a setting
-record SettingFields (p t m r y c f g word : ℕ) : Type 0 where
+record SettingFields (p t m r y c f g e word : ℕ) : Type 0 where
   primaries-out : word % 256 ≡ p
   transfer-out : word / 256 % 256 ≡ t
   matrix-out : word / 65536 % 256 ≡ m
@@ -28,11 +28,12 @@ record SettingFields (p t m r y c f g word : ℕ) : Type 0 where
   chroma-out : word / 1099511627776 % 256 ≡ c
   rgb-full-out : word / 281474976710656 % 2 ≡ f
   ycc-full-out : word / 562949953421312 % 2 ≡ g
+  edition-out : word / 72057594037927936 % 256 ≡ e
 
-setting-fields : (p t m r y c f g above : ℕ) → p < 256 → t < 256 → m < 256 → r < 256 → y < 256 → c < 256 → f < 2 → g < 2
-    → SettingFields p t m r y c f g
-    (p + t * 256 + m * 65536 + r * 16777216 + y * 4294967296 + c * 1099511627776 + f * 281474976710656 + g * 562949953421312 + above * 1125899906842624)
-setting-fields p t m r y c f g above hp ht hm hr hy hc hf hg = omega arith
+setting-fields : (p t m r y c f g between e : ℕ) → p < 256 → t < 256 → m < 256 → r < 256 → y < 256 → c < 256 → f < 2 → g < 2 → between < 64 → e < 256
+    → SettingFields p t m r y c f g e
+    (p + t * 256 + m * 65536 + r * 16777216 + y * 4294967296 + c * 1099511627776 + f * 281474976710656 + g * 562949953421312 + between * 1125899906842624 + e * 72057594037927936)
+setting-fields p t m r y c f g between e hp ht hm hr hy hc hf hg hb he = omega arith
 
 bit-small : (b : Bool) → bit b < 2
 bit-small true = omega arith
@@ -50,13 +51,14 @@ pub record Bytes (s : Setting) : Type 0 where
   pub rgb-fits : s .«rgb_depth» < 256
   pub luma-fits : s .«y_depth» < 256
   pub chroma-fits : s .«c_depth» < 256
+  pub edition-fits : s .edition < 256
 
--- what stands in the bits above a setting changes nothing
-pub setting-out : (s : Setting) (above : ℕ) → Bytes s → settingIn (settingWord s above) ≡ s
+-- what stands in the bits between flags and edition changes nothing
+pub setting-out : (s : Setting) (between : ℕ) → Bytes s → between < 64 → settingIn (settingWord s between) ≡ s
 unfolding settingIn
-setting-out s above h =
-    let f = setting-fields (s .primaries) (s .transfer) (s .matrix) (s .«rgb_depth») (s .«y_depth») (s .«c_depth») (bit (s .«rgb_full»)) (bit (s .«ycc_full»)) above
-    (h .primaries-fits) (h .transfer-fits) (h .matrix-fits) (h .rgb-fits) (h .luma-fits) (h .chroma-fits) (bit-small (s .«rgb_full»)) (bit-small (s .«ycc_full»)) in
+setting-out s between h k =
+    let f = setting-fields (s .primaries) (s .transfer) (s .matrix) (s .«rgb_depth») (s .«y_depth») (s .«c_depth») (bit (s .«rgb_full»)) (bit (s .«ycc_full»)) between (s .edition)
+    (h .primaries-fits) (h .transfer-fits) (h .matrix-fits) (h .rgb-fits) (h .luma-fits) (h .chroma-fits) (bit-small (s .«rgb_full»)) (bit-small (s .«ycc_full»)) k (h .edition-fits) in
     let rgb = ap (λ n. eqb n 1) (f .rgb-full-out) ∙ bit-out (s .«rgb_full») in
     let ycc = ap (λ n. eqb n 1) (f .ycc-full-out) ∙ bit-out (s .«ycc_full») in
     λ i. record {
@@ -68,6 +70,7 @@ setting-out s above h =
       «c_depth» = f .chroma-out i;
       «rgb_full» = rgb i;
       «ycc_full» = ycc i;
+      edition = f .edition-out i;
     }
 
 -- bit 48 is full RGB and no other flag
@@ -75,6 +78,6 @@ pub flags-apart : (settingIn (2 ^ 48) .«rgb_full» ≡ true) × (settingIn (2 ^
 unfolding settingIn
 flags-apart = (refl, refl)
 
--- and a word of 64 bits has room for it, with 14 bits above
-pub word-fits : (s : Setting) (above : ℕ) → Bytes s → above < 16384 → settingWord s above < 18446744073709551616
-word-fits s above h k = let f = bit-small (s .«rgb_full») in let g = bit-small (s .«ycc_full») in omega arith
+-- and a word of 64 bits has room for it
+pub word-fits : (s : Setting) (between : ℕ) → Bytes s → between < 64 → settingWord s between < 18446744073709551616
+word-fits s between h k = let f = bit-small (s .«rgb_full») in let g = bit-small (s .«ycc_full») in omega arith

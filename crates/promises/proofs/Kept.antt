@@ -5,7 +5,9 @@ use denote.Ref.{now}
 use Rattle.setting.specs.declared.Way.the-variants.{Forward, Reverse}
 use Rattle.planes.specs.Picture.{picture}
 use Rattle.corkplover.specs.Meaning.{meaningOfPixel, meaningOfSource, meaningOfReading, meaningOfLevels, meaningOfFrame, meaningOfImage}
-use Rattle.corkplover.proofs.Calls.{forward-pixel-answers, reverse-pixel-answers, source-pixel-answers, meter-sample-answers, meter-pixel-answers, image-check-answers, forward-frame-answers, reverse-frame-answers}
+use Rattle.corkplover.specs.Packing.{packedLabel}
+use Rattle.corkplover.proofs.Calls.{label-answers, forward-pixel-answers, reverse-pixel-answers, source-pixel-answers, meter-sample-answers, meter-pixel-answers, image-check-answers, forward-frame-answers, reverse-frame-answers}
+use Rattle.corkplover.proofs.labels.label.Reads as label
 use Rattle.corkplover.proofs.pixels.forward_pixel.Reads as forward-pixel
 use Rattle.corkplover.proofs.pixels.reverse_pixel.Reads as reverse-pixel
 use Rattle.corkplover.proofs.pixels.source_pixel.Reads as source-pixel
@@ -14,12 +16,17 @@ use Rattle.corkplover.proofs.meters.meter_pixel.Reads as meter-pixel
 use Rattle.corkplover.proofs.frames.image_check.Reads as image-check
 use Rattle.corkplover.proofs.frames.forward_frame.Reads as forward-frame
 use Rattle.corkplover.proofs.frames.reverse_frame.Reads as reverse-frame
+use Rattle.promises.specs.Labels.{AnswersLabel}
 use Rattle.promises.specs.Pixels.{ConvertsPixel, ChecksPixel, ReadsSample, ReadsPixel}
 use Rattle.promises.specs.Frames.{ConvertsPlanes}
 use Rattle.promises.specs.Images.{ChecksImage}
+use Rattle.promises.proofs.Labels.{label-kept}
 use Rattle.promises.proofs.Pixels.{pixel-converts, pixel-checks, sample-reads, pixel-reads}
 use Rattle.promises.proofs.Frames.{converts-by}
 use Rattle.promises.proofs.Images.{image-checks}
+
+pub label-keeps : (κs kind edition code r t : _) → label.Post κs (kind, (edition, (code, tt))) r t → AnswersLabel kind edition code (packedLabel r)
+label-keeps κs kind edition code r t h = rw (label-answers κs kind edition code r t h) (label-kept kind edition code)
 
 pub forward-pixel-keeps : (κs s p r t : _) → forward-pixel.Post κs (s, (p, tt)) r t → ConvertsPixel Forward s p (meaningOfPixel r)
 forward-pixel-keeps κs s p r t h = rw (forward-pixel-answers κs s p r t h) (pixel-converts Forward s p)

@@ -7,6 +7,7 @@ use Rattle.sample.specs.declared.Pixel.{Pixel}
 use Rattle.setting.specs.declared.Setting.{Setting}
 use Rattle.setting.specs.declared.Way.{Way}
 use Rattle.setting.specs.declared.Way.the-variants.{Forward, Reverse}
+use Rattle.setting.specs.declared.label.CodeKind.the-variants.{Primaries, Transfer, Matrix}
 use Rattle.meter.specs.declared.SampleKind.{SampleKind}
 use Rattle.meter.specs.declared.SampleKind.the-variants.{Y, Cb, Cr}
 use Rattle.planes.specs.Picture.{picture}
@@ -14,7 +15,10 @@ use Rattle.corkplover.specs.After.{ReadingAfter}
 use Rattle.corkplover.specs.Answers.{pixelAnswer}
 use Rattle.corkplover.specs.Meaning.{meaningInPixel, meaningInReading, meaningInLevels, meaningInFrame, meaningInImage}
 use Rattle.corkplover.specs.Packing.{settingIn, pixelFrom, sizes, packedPixel}
-use Rattle.corkplover.proofs.ExportedCalls.{corkplover-forward-pixel-answers, corkplover-reverse-pixel-answers, corkplover-meter-y-answers, corkplover-meter-cb-answers, corkplover-meter-cr-answers, corkplover-meter-pixel-answers, corkplover-forward-frame-answers, corkplover-reverse-frame-answers, corkplover-image-check-answers}
+use Rattle.corkplover.proofs.ExportedCalls.{corkplover-primaries-label-answers, corkplover-transfer-label-answers, corkplover-matrix-label-answers, corkplover-forward-pixel-answers, corkplover-reverse-pixel-answers, corkplover-meter-y-answers, corkplover-meter-cb-answers, corkplover-meter-cr-answers, corkplover-meter-pixel-answers, corkplover-forward-frame-answers, corkplover-reverse-frame-answers, corkplover-image-check-answers}
+use Rattle.corkplover.proofs.exports.corkplover_primaries_label.Reads as primaries-label
+use Rattle.corkplover.proofs.exports.corkplover_transfer_label.Reads as transfer-label
+use Rattle.corkplover.proofs.exports.corkplover_matrix_label.Reads as matrix-label
 use Rattle.corkplover.proofs.exports.corkplover_forward_pixel.Reads as forward-pixel
 use Rattle.corkplover.proofs.exports.corkplover_reverse_pixel.Reads as reverse-pixel
 use Rattle.corkplover.proofs.exports.corkplover_meter_y.Reads as meter-y
@@ -24,9 +28,11 @@ use Rattle.corkplover.proofs.exports.corkplover_meter_pixel.Reads as meter-pixe
 use Rattle.corkplover.proofs.frame_exports.corkplover_forward_frame.Reads as forward-frame
 use Rattle.corkplover.proofs.frame_exports.corkplover_reverse_frame.Reads as reverse-frame
 use Rattle.corkplover.proofs.frame_exports.corkplover_image_check.Reads as image-check
+use Rattle.promises.specs.Labels.{AnswersLabel}
 use Rattle.promises.specs.Pixels.{ConvertsPixel, ReadsSample, ReadsPixel}
 use Rattle.promises.specs.Frames.{ConvertsPlanes}
 use Rattle.promises.specs.Images.{ChecksImage}
+use Rattle.promises.proofs.Labels.{label-kept}
 use Rattle.promises.proofs.Pixels.{pixel-converts, sample-reads, pixel-reads}
 use Rattle.promises.proofs.Frames.{converts-by}
 use Rattle.promises.proofs.Images.{image-checks}
@@ -38,6 +44,15 @@ pixel-by w s p x e = subst (ConvertsPixel w s p) (sym (ap meaningInPixel e ∙ p
 
 reading-by : (k : SampleKind) (s : Setting) (v x : ℕ) (level : Float) → ReadingAfter k s v x level → ReadsSample k s v (meaningInReading x level)
 reading-by k s v x level e = subst (ReadsSample k s v) (sym ((λ i. meaningInReading (e .0 i) (e .1 i)) ∙ reading-unpacked k s v)) (sample-reads k s v)
+
+pub corkplover-primaries-label-keeps : (κs edition code x t : _) → primaries-label.Post κs (edition, (code, tt)) x t → AnswersLabel Primaries edition code x
+corkplover-primaries-label-keeps κs edition code x t h = rw (corkplover-primaries-label-answers κs edition code x t h) (label-kept Primaries edition code)
+
+pub corkplover-transfer-label-keeps : (κs edition code x t : _) → transfer-label.Post κs (edition, (code, tt)) x t → AnswersLabel Transfer edition code x
+corkplover-transfer-label-keeps κs edition code x t h = rw (corkplover-transfer-label-answers κs edition code x t h) (label-kept Transfer edition code)
+
+pub corkplover-matrix-label-keeps : (κs edition code x t : _) → matrix-label.Post κs (edition, (code, tt)) x t → AnswersLabel Matrix edition code x
+corkplover-matrix-label-keeps κs edition code x t h = rw (corkplover-matrix-label-answers κs edition code x t h) (label-kept Matrix edition code)
 
 pub corkplover-forward-pixel-keeps : (κs word r g b x t : _) → forward-pixel.Post κs (word, (r, (g, (b, tt)))) x t
     → ConvertsPixel Forward (settingIn word) (pixelFrom r g b) (meaningInPixel x)

@@ -6,10 +6,13 @@ pub mod Refusing
 pub mod Pixels
 pub mod Frames
 pub mod Images
+pub mod Labels
 pub mod Lossless
 pub mod PixelPairs
 pub mod FramePairs
 pub mod Remains
+pub mod Editions
+pub mod DraftCodes
 pub mod Fields
 pub mod Unpacked
 pub mod Contracts
@@ -18,9 +21,12 @@ pub mod Kept
 pub mod KeptExports
 pub mod Together
 pub mod TogetherExports
+pub mod InEditions
+pub mod InEditionsExports
 pub mod Printed
 pub mod Marked
 pub mod WrongBoxes
 pub mod WrongLevels
 pub mod WrongYCgCo
+pub mod WrongEditions
 pub mod WholeFrames

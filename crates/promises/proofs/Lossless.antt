@@ -13,13 +13,16 @@ use Rattle.refusal.specs.Rules.{Rule, rule, first}
 use Rattle.refusal.specs.declared.Check.the-variants.{Passed}
 use Rattle.refusal.proofs.RuleLaws.{passed-over}
 use Rattle.setting.specs.Agreement.{bonded, keeps, answers}
-use Rattle.setting.specs.Matrix.{changedPlaces, ycgcoR, ycgcoRe, ycgcoRo, matrices, matrixOf}
-use Rattle.setting.specs.Rules.{standing, entryOf, entry, depths, settingRules}
+use Rattle.setting.specs.Edition.{editionOf}
+use Rattle.setting.specs.Matrix.{changedPlaces, ycgcoR, ycgcoRe, ycgcoRo, matrixOf}
+use Rattle.setting.specs.Rules.{standing, entryOf, matrixIn, entry, depths, settingRules}
 use Rattle.setting.specs.declared.Call.{Call}
 use Rattle.setting.specs.declared.Call.the-variants.{Convert, ImageCheck}
 use Rattle.setting.specs.declared.Setting.{Setting}
 use Rattle.setting.specs.declared.Way.{Way}
 use Rattle.setting.specs.declared.Way.the-variants.{Forward}
+use Rattle.setting.specs.declared.edition.Edition.{Edition}
+use Rattle.setting.specs.declared.edition.Edition.the-variants.{Of2021, Draft, Published}
 use Rattle.setting.specs.declared.matrix.Bond.{Bond}
 use Rattle.setting.specs.declared.matrix.Bond.the-variants.{Bits}
 use Rattle.setting.specs.declared.matrix.Entry.{Entry}
@@ -28,7 +31,7 @@ use Rattle.setting.specs.declared.matrix.Lossless.the-variants.{From, Never}
 use Rattle.setting.specs.declared.matrix.Matrix.{Matrix}
 use Rattle.setting.specs.declared.matrix.Matrix.the-variants as matrix
 use Rattle.setting.proofs.ReadyLaws.{rule-11, bonded-so, deeper}
-use Rattle.setting.proofs.Table.{Each, at-code}
+use Rattle.setting.proofs.Table.{Each, rows, at-code}
 use Rattle.promises.specs.Lossless.{Listed, change-places, ycgco-r, ycgco-re, ycgco-ro}
 
 -- ---- of the rules on a setting rule 11 alone asks for the call
@@ -44,7 +47,7 @@ answered false e = absurd (true≢false (sym e))
 
 pub of-other-call : (c d : Call) (s : Setting) → first (settingRules c s) ≡ Passed → answers d (entry s) (depths s) ≡ true → first (settingRules d s) ≡ Passed
 of-other-call c d s e t =
-    pass _ _ _ e (λ e. pass _ _ _ e (λ e. pass _ _ _ e (λ e. pass _ _ _ e (λ e. pass _ _ _ e (λ e. pass _ _ _ e (λ e. pass _ _ _ e (λ e. answered _ t)))))))
+    pass _ _ _ e (λ e. pass _ _ _ e (λ e. pass _ _ _ e (λ e. pass _ _ _ e (λ e. pass _ _ _ e (λ e. pass _ _ _ e (λ e. pass _ _ _ e (λ e. pass _ _ _ e (λ e. answered _ t))))))))
 
 -- so what the image check takes is converted, either way
 pub converts-too : (w : Way) (s : Setting) → first (settingRules ImageCheck s) ≡ Passed → first (settingRules (Convert w) s) ≡ Passed
@@ -65,9 +68,9 @@ module _ (s : Setting) (e : first (settingRules ImageCheck s) ≡ Passed) where
     bound : bonded (entryOf m .bond) d (s .«rgb_full») (s .«ycc_full») ≡ true
     most : d .chroma .0 ≤ d .luma .0 + entryOf m .«chroma_bits»
 
-  left : Left (matrixOf (s .matrix))
+  left : Left (matrixIn s)
   left =
-      let t = passed-over _ _ e in
+      let t = passed-over _ _ (passed-over _ _ e .1) in
       let u = passed-over _ _ (t .1) in
       let v = passed-over _ _ (u .1) in
       record {
@@ -82,7 +85,7 @@ module _ (s : Setting) (e : first (settingRules ImageCheck s) ≡ Passed) where
   -- so it is on the list, whichever the table has for the code: one that is never lossless keeps nothing, and YCgCo keeps all where chroma
   -- has its one bit more
   abbrev On : Matrix → Type 0
-  On m = matrixOf (s .matrix) ≡ m → Left m → Listed s
+  On m = matrixIn s ≡ m → Left m → Listed s
 
   on-places : On (matrix.Served changedPlaces)
   on-places q l = change-places q
@@ -111,11 +114,11 @@ module _ (s : Setting) (e : first (settingRules ImageCheck s) ≡ Passed) where
   no-unserved : On matrix.Unserved
   no-unserved q l = absurd (true≢false (l .not-unserved))
 
-  each : Each On matrices
+  each : Each On rows
   each = search (on-places, on-r, on-re, on-ro, no-lossy, no-reserved, no-unspecified, no-unserved) depth 60
 
   listed : Listed s
-  listed = at-code On no-reserved each (s .matrix) refl left
+  listed = at-code On no-reserved each (editionOf (s .edition)) (s .matrix) refl left
 
 -- ---- what is on the list and converted is taken by the image check
 
@@ -157,11 +160,20 @@ withCode n matrix.Unserved rest = rest
 withCode n matrix.Unspecified rest = rest
 withCode n matrix.Reserved rest = rest
 
--- of so many codes from a number on, those whose matrix loses nothing at some depths, each with what it means
-abbrev pub losslessCodes : ℕ → ℕ → List (ℕ × Entry)
-losslessCodes n zero = []
-losslessCodes n (suc more) = withCode n (matrixOf n) (losslessCodes (suc n) more)
+-- of so many codes from a number on, those whose matrix loses nothing at some depths in an edition, each with what it means
+abbrev pub losslessCodes : Edition → ℕ → ℕ → List (ℕ × Entry)
+losslessCodes e n zero = []
+losslessCodes e n (suc more) = withCode n (matrixOf e n) (losslessCodes e (suc n) more)
 
-pub lossless-codes : losslessCodes 0 256 ≡ (0, changedPlaces) ∷ (8, ycgcoR) ∷ (16, ycgcoRe) ∷ (17, ycgcoRo) ∷ []
+-- each edition's own
+abbrev pub ownLossless : Edition → List (ℕ × Entry)
+ownLossless Of2021 = []
+ownLossless Draft = (15, ycgcoRe) ∷ (16, ycgcoRo) ∷ []
+ownLossless Published = (16, ycgcoRe) ∷ (17, ycgcoRo) ∷ []
+
+-- THE list of an edition
+pub lossless-codes : (e : Edition) → losslessCodes e 0 256 ≡ (0, changedPlaces) ∷ (8, ycgcoR) ∷ ownLossless e
 unfolding matrixOf
-lossless-codes = refl
+lossless-codes Of2021 = refl
+lossless-codes Draft = refl
+lossless-codes Published = refl

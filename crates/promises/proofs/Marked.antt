@@ -23,11 +23,12 @@ use Rattle.corkplover.specs.Answers.{pixelAnswer}
 use Rattle.corkplover.specs.Meaning.{meaningOfPixel}
 use Rattle.promises.specs.Pixels.{samplesOf}
 
--- a setting by its matrix, the depths of RGB, Y and C, and whether RGB and YCbCr are full; primaries and transfer are 1
+-- a setting by its matrix, the depths of RGB, Y and C, and whether RGB and YCbCr are full; primaries and transfer are 1, and it is read by the
+-- published edition
 abbrev pub with : ℕ → ℕ → ℕ → ℕ → Bool → Bool → Setting
 with m r y c rf yf =
     record
-    { primaries = 1; transfer = 1; matrix = m; «rgb_depth» = r; «y_depth» = y; «c_depth» = c; «rgb_full» = rf; «ycc_full» = yf }
+    { primaries = 1; transfer = 1; matrix = m; «rgb_depth» = r; «y_depth» = y; «c_depth» = c; «rgb_full» = rf; «ycc_full» = yf; edition = 3 }
 
 abbrev pub pixel : ℕ → ℕ → ℕ → Pixel
 pixel a b c = record { p0 = a; p1 = b; p2 = c }

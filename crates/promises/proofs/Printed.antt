@@ -9,9 +9,9 @@ use Rattle.levels.specs.Conversion.{LevelDepths, lumaForward, lumaReverse}
 use Rattle.levels.specs.Equations.{allParts, weights, lumaMatrix}
 use Rattle.levels.proofs.Bounds.{shares}
 use Rattle.levels.proofs.Pixels.{luma-forward, luma-reverse}
-use Rattle.setting.specs.Matrix.{lumaEntry, matrixOf}
+use Rattle.setting.specs.Matrix.{lumaEntry}
 use Rattle.setting.specs.Ready.{levelSetting, Agreed}
-use Rattle.setting.specs.Rules.{entryOf, entry, served, settingRules}
+use Rattle.setting.specs.Rules.{entryOf, matrixIn, entry, served, settingRules}
 use Rattle.setting.specs.declared.Call.the-variants.{Convert}
 use Rattle.setting.specs.declared.Setting.{Setting}
 use Rattle.setting.specs.declared.Way.{Way}
@@ -26,7 +26,7 @@ use Rattle.plan.specs.Conversion.{convertBy, convert}
 abbrev luma : ℕ → ℕ → Matrix
 luma kr kb = matrix.Served (lumaEntry kr kb)
 
-module _ (s : Setting) (kr kb : ℕ) (h : kr + kb < allParts) (e : matrixOf (s .matrix) ≡ luma kr kb) where
+module _ (s : Setting) (kr kb : ℕ) (h : kr + kb < allParts) (e : matrixIn s ≡ luma kr kb) where
   formulas-are : entry s .formulas ≡ Levels (lumaMatrix (weights kr kb))
   formulas-are = ap (λ m. entryOf m .formulas) e
 

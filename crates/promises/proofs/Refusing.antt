@@ -52,7 +52,7 @@ not-zero : (rs : List Rule) (x : Refusal) → Numbered rs → first rs ≡ check
 not-zero rs x h e q = eqb-false (x .number) 0 (first-has _ rs x h e) q
 
 all-numbered : (call : Call) (s : Setting) (sizes : List Rule) (bad : Bad) → Numbered sizes → Numbered (callRules call s sizes bad)
-all-numbered call s sizes bad h = (refl, (refl, (refl, (refl, (refl, (refl, (refl, (refl, rest sizes h))))))))
+all-numbered call s sizes bad h = (refl, (refl, (refl, (refl, (refl, (refl, (refl, (refl, (refl, rest sizes h)))))))))
   where
     last : (f : Bad) → Numbered (badRule f ∷ [])
     last (bads.At place v) = (refl, tt)
@@ -76,7 +76,7 @@ other n e h = record { not-0 = e .0; not-10 = e .1; byte = h; no-place = refl; n
 pub setting-others : (c : Call) (s : Setting) → EveryRule Other (settingRules c s)
 setting-others c s =
     let o = other in
-    (o 1 (refl, refl) (omega arith), (o 2 (refl, refl) (omega arith), (o 3 (refl, refl) (omega arith), (o 4 (refl, refl) (omega arith), (o 5 (refl, refl) (omega arith), (o 6 (refl, refl) (omega arith), (o 7 (refl, refl) (omega arith), (o 11 (refl, refl) (omega arith), tt))))))))
+    (o 12 (refl, refl) (omega arith), (o 1 (refl, refl) (omega arith), (o 2 (refl, refl) (omega arith), (o 3 (refl, refl) (omega arith), (o 4 (refl, refl) (omega arith), (o 5 (refl, refl) (omega arith), (o 6 (refl, refl) (omega arith), (o 7 (refl, refl) (omega arith), (o 11 (refl, refl) (omega arith), tt)))))))))
 
 pub size-others : (width height : ℕ) (layouts : List Layout) → EveryRule Other (sizeRules width height layouts)
 size-others width height layouts = (other 8 (refl, refl) (omega arith), (other 9 (refl, refl) (omega arith), tt))

@@ -8,6 +8,7 @@ use lib.ListN.{getD}
 use Rattle.setting.specs.Label.{among, labelled, labelNumber, primariesLabel, transferLabel, matrixLabel}
 use Rattle.setting.specs.Matrix.{matrixOf}
 use Rattle.setting.specs.declared.Setting.{Setting}
+use Rattle.setting.specs.declared.edition.Edition.the-variants.{Published}
 use Rattle.setting.specs.declared.Way.the-variants.{Forward, Reverse}
 use Rattle.corkplover.specs.Answers.{pixelAnswer, sourceAnswer}
 use Rattle.admit.specs.Rules.{callAdmission}
@@ -35,7 +36,7 @@ pub transfer-edges : labels (λ n. labelNumber (transferLabel n)) (0 ∷ 1 ∷ 2
 unfolding labelled among
 transfer-edges = refl
 
-pub matrix-edges : labels (λ n. labelNumber (matrixLabel n)) (0 ∷ 1 ∷ 2 ∷ 3 ∷ 4 ∷ 15 ∷ 17 ∷ 18 ∷ 255 ∷ []) ≡ 0 ∷ 0 ∷ 1 ∷ 2 ∷ 0 ∷ 0 ∷ 0 ∷ 2 ∷ 2 ∷ []
+pub matrix-edges : labels (λ n. labelNumber (matrixLabel Published n)) (0 ∷ 1 ∷ 2 ∷ 3 ∷ 4 ∷ 15 ∷ 17 ∷ 18 ∷ 255 ∷ []) ≡ 0 ∷ 0 ∷ 1 ∷ 2 ∷ 0 ∷ 0 ∷ 0 ∷ 2 ∷ 2 ∷ []
 unfolding matrixOf
 matrix-edges = refl
 
@@ -74,7 +75,7 @@ fixed-colour e = let q = sym (at 0 1) ∙ ap (λ l. getD l 0 0) e ∙ at 1 1 in 
 abbrev unlabelled : ℕ → ℕ → Setting
 unlabelled m d =
     record
-    { primaries = 3; transfer = 3; matrix = m; «rgb_depth» = d; «y_depth» = d; «c_depth» = d; «rgb_full» = true; «ycc_full» = false }
+    { primaries = 3; transfer = 3; matrix = m; «rgb_depth» = d; «y_depth» = d; «c_depth» = d; «rgb_full» = true; «ycc_full» = false; edition = 3 }
 
 pub unserved-first : meaningOfPixel (pixelAnswer Forward (unlabelled 10 8) (pixel 256 0 0)) ≡ meaningRefusal (numbered 3)
 unfolding pixelAnswer callAdmission first matrixOf

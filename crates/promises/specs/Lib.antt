@@ -4,3 +4,5 @@ pub mod Lossless
 pub mod Pixels
 pub mod Frames
 pub mod Images
+pub mod Labels
+pub mod Editions

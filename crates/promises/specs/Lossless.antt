@@ -1,15 +1,16 @@
--- The settings that the rules list as lossless, among those that are not refused. A matrix is listed by what its code means; which code
--- that is has its one home in the table of matrices.
+-- The settings that the rules list as lossless, among those that are not refused. A matrix is listed by what its code means in the setting's
+-- edition; which code that is has its one home in the table of matrices.
 use mathlib.Core.Path.{_≡_}
 use Prim.Native.Nat.{_+_}
-use Rattle.setting.specs.Matrix.{changedPlaces, ycgcoR, ycgcoRe, ycgcoRo, matrixOf}
+use Rattle.setting.specs.Matrix.{changedPlaces, ycgcoR, ycgcoRe, ycgcoRo}
+use Rattle.setting.specs.Rules.{matrixIn}
 use Rattle.setting.specs.declared.Setting.{Setting}
 use Rattle.setting.specs.declared.matrix.Entry.{Entry}
 use Rattle.setting.specs.declared.matrix.Matrix.the-variants.{Served}
 
 -- the setting's matrix code means this
 abbrev pub Means : Setting → Entry → Type 0
-Means s e = matrixOf (s .matrix) ≡ Served e
+Means s e = matrixIn s ≡ Served e
 
 pub data Listed (s : Setting) : Type 0 where
   -- planes change places

@@ -45,6 +45,8 @@ impl Refusal {
 
     pub const NOT_FOR_THIS_SETTING: u8 = 11;
 
+    pub const UNKNOWN_EDITION: u8 = 12;
+
     // A refusal that names no sample.
     pub fn numbered(number: u8) -> Refusal
         ensures { λ r. ⌜ r ≡ numbered number ⌝ }

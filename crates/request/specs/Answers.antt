@@ -1,15 +1,14 @@
 -- The box's answer to a request: what its entry point answers, with the way of converted samples, and a level as its bits.
 use mathlib.Core.Bool.{true, false}
-use Prim.Native.Nat.{ℕ}
 use lib.Ieee.{binary32, toBits}
 use Rattle.sample.specs.declared.Pixel.{Pixel}
-use Rattle.setting.specs.Label.{primariesLabel, transferLabel, matrixLabel}
 use Rattle.setting.specs.declared.Call.{Call}
 use Rattle.setting.specs.declared.Call.the-variants as call
 use Rattle.setting.specs.declared.Setting.{Setting}
-use Rattle.setting.specs.declared.label.Label.{Label}
 use Rattle.setting.specs.declared.Way.{Way}
-use Rattle.corkplover.specs.Answers.{pixelAnswer, sourceAnswer, reading, levelsAnswer}
+use Rattle.corkplover.specs.Answers.{labelAnswer, pixelAnswer, sourceAnswer, reading, levelsAnswer}
+use Rattle.corkplover.specs.declared.labels.LabelAnswer.{LabelAnswer}
+use Rattle.corkplover.specs.declared.labels.LabelAnswer.the-variants as label
 use Rattle.corkplover.specs.declared.pixels.PixelAnswer.{PixelAnswer}
 use Rattle.corkplover.specs.declared.pixels.PixelAnswer.the-variants as pixel
 use Rattle.corkplover.specs.declared.pixels.SourceAnswer.{SourceAnswer}
@@ -18,8 +17,6 @@ use Rattle.corkplover.specs.declared.meters.Reading.{Reading}
 use Rattle.corkplover.specs.declared.meters.Reading.the-variants as meter
 use Rattle.corkplover.specs.declared.meters.LevelsAnswer.{LevelsAnswer}
 use Rattle.corkplover.specs.declared.meters.LevelsAnswer.the-variants as levels
-use Rattle.request.specs.declared.CodeKind.{CodeKind}
-use Rattle.request.specs.declared.CodeKind.the-variants.{Primaries, Transfer, Matrix}
 use Rattle.request.specs.declared.Request.{Request}
 use Rattle.request.specs.declared.Request.the-variants as request
 use Rattle.request.specs.declared.ask.Answer.{Answer}
@@ -47,12 +44,11 @@ askPixel (call.Convert w) s p = ofPixel w (pixelAnswer w s p)
 askPixel call.Meter s p = ofLevels (levelsAnswer s p)
 askPixel call.ImageCheck s p = ofSource (sourceAnswer s p)
 
-abbrev pub labelFor : CodeKind → ℕ → Label
-labelFor Primaries code = primariesLabel code
-labelFor Transfer code = transferLabel code
-labelFor Matrix code = matrixLabel code
+abbrev pub ofLabel : LabelAnswer → Answer
+ofLabel (label.Labelled l) = Labelled l
+ofLabel (label.Refused r) = Refused r
 
 unfoldable pub answerTo : Request → Answer
 answerTo (request.Pixel c s p) = askPixel c s p
 answerTo (request.Sample k s v) = ofReading (reading k s v)
-answerTo (request.Label k code) = Labelled (labelFor k code)
+answerTo (request.Label k edition code) = ofLabel (labelAnswer k edition code)

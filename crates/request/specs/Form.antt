@@ -15,7 +15,7 @@ use Rattle.setting.specs.declared.Call.{Call}
 use Rattle.setting.specs.declared.Call.the-variants.{Convert, Meter, ImageCheck}
 use Rattle.setting.specs.declared.Way.{Way}
 use Rattle.setting.specs.declared.Way.the-variants.{Forward, Reverse}
-use Rattle.request.specs.declared.CodeKind.{CodeKind}
+use Rattle.setting.specs.declared.label.CodeKind.{CodeKind}
 use Rattle.request.specs.declared.Request.the-variants as request
 use Rattle.request.specs.declared.form.Asked.{Asked}
 use Rattle.request.specs.declared.form.Asked.the-variants.{For, Fault}
@@ -56,9 +56,9 @@ rangeWord gap s n ranges fault = rangeTaken n fault (indexIn (wordOf gap s n) (s
 abbrev pub endOfWords : ℕ → List ℕ → ℕ → ℕ → ℕ
 endOfWords gap s n fault = cond (ltb n (length (split gap s))) (min fault n) fault
 
--- words 1 to 8
-unfoldable pub settingWords : ℕ → List ℕ → List ℕ → ReadSetting
-settingWords gap s ranges =
+-- words 1 to 8, read by an edition
+unfoldable pub settingWords : ℕ → ℕ → List ℕ → List ℕ → ReadSetting
+settingWords edition gap s ranges =
     let primaries = numberWord gap s 1 largestByte clear in
     let transfer = numberWord gap s 2 largestByte (primaries .fault) in
     let matrix = numberWord gap s 3 largestByte (transfer .fault) in
@@ -78,6 +78,7 @@ settingWords gap s ranges =
             «c_depth» = c .value;
             «rgb_full» = eqb (rgbRange .value) 1;
             «ycc_full» = eqb (yccRange .value) 1;
+            edition = edition;
           };
       fault = yccRange .fault;
     }
@@ -117,9 +118,9 @@ abbrev pub pixelAsked : Call → ReadSetting → ReadPixel → ℕ → Asked
 pixelAsked call w p fault =
     cond (eqb fault clear) (For (request.Pixel call (w .setting) (p .pixel))) (Fault fault (expectedAt call fault))
 
-unfoldable pub pixelForm : Call → ℕ → List ℕ → List ℕ → Asked
-pixelForm call gap s ranges =
-    let w = settingWords gap s ranges in
+unfoldable pub pixelForm : Call → ℕ → ℕ → List ℕ → List ℕ → Asked
+pixelForm call edition gap s ranges =
+    let w = settingWords edition gap s ranges in
     let p = pixelWords gap s (w .fault) in
     pixelAsked call w p (endOfWords gap s 12 (p .fault))
 
@@ -129,18 +130,18 @@ sampleAsked kind w v n fault =
     cond (eqb fault clear) (For (request.Sample kind (w .setting) (v .value)))
     (Fault fault (cond (eqb fault n) (expectedSample kind) (expectedWith NoMore NoMore NoMore fault)))
 
-unfoldable pub sampleForm : SampleKind → ℕ → List ℕ → List ℕ → ℕ → Asked
-sampleForm kind gap s ranges n =
-    let w = settingWords gap s ranges in
+unfoldable pub sampleForm : SampleKind → ℕ → ℕ → List ℕ → List ℕ → ℕ → Asked
+sampleForm kind edition gap s ranges n =
+    let w = settingWords edition gap s ranges in
     let v = numberWord gap s n largestSample (w .fault) in
     sampleAsked kind w v n (endOfWords gap s (n + 1) (v .fault))
 
 -- a request about a code, word n
-abbrev pub labelAsked : CodeKind → ReadNumber → ℕ → ℕ → Asked
-labelAsked kind v n fault =
-    cond (eqb fault clear) (For (request.Label kind (v .value))) (Fault fault (cond (eqb fault n) Code NoMore))
+abbrev pub labelAsked : CodeKind → ℕ → ReadNumber → ℕ → ℕ → Asked
+labelAsked kind edition v n fault =
+    cond (eqb fault clear) (For (request.Label kind edition (v .value))) (Fault fault (cond (eqb fault n) Code NoMore))
 
-unfoldable pub labelForm : CodeKind → ℕ → List ℕ → ℕ → Asked
-labelForm kind gap s n =
+unfoldable pub labelForm : CodeKind → ℕ → ℕ → List ℕ → ℕ → Asked
+labelForm kind edition gap s n =
     let v = numberWord gap s n largestByte clear in
-    labelAsked kind v n (endOfWords gap s (n + 1) (v .fault))
+    labelAsked kind edition v n (endOfWords gap s (n + 1) (v .fault))

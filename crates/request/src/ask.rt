@@ -1,11 +1,11 @@
 // Every request is passed on to its entry point, and the answers come back as one type. Samples come with the way that made them, a level as
 // its bits.
 ghost use mathlib.Core.Path.{_≡_};
-ghost use Rattle.corkplover.specs.Answers.{pixelAnswer, reading, levelsAnswer};
-ghost use Rattle.request.specs.Answers.{ofPixel, ofSource, ofReading, ofLevels, askPixel, labelFor, answerTo};
-use crate::CodeKind;
+ghost use Rattle.corkplover.specs.Answers.{labelAnswer, pixelAnswer, reading, levelsAnswer};
+ghost use Rattle.request.specs.Answers.{ofPixel, ofSource, ofReading, ofLevels, ofLabel, askPixel, answerTo};
 use crate::Request;
 use corkplover::labels;
+use corkplover::labels::LabelAnswer;
 use corkplover::meters;
 use corkplover::meters::LevelsAnswer;
 use corkplover::meters::Reading;
@@ -18,6 +18,7 @@ use sample::Pixel;
 use setting::Call;
 use setting::Setting;
 use setting::Way;
+use setting::label::CodeKind;
 use setting::label::Label;
 
 pub enum Answer {
@@ -89,13 +90,12 @@ fn ask_pixel(call: Call, s: Setting, p: Pixel) -> Answer
     }
 }
 
-fn label_of(kind: CodeKind, code: u8) -> Label
-    ensures { λ r. ⌜ r ≡ labelFor kind code ⌝ }
+fn ask_label(kind: CodeKind, edition: u8, code: u8) -> Answer
+    ensures { λ r. ⌜ r ≡ ofLabel (labelAnswer kind edition code) ⌝ }
 {
-    match kind {
-        CodeKind::Primaries => labels::primaries_label(code),
-        CodeKind::Transfer => labels::transfer_label(code),
-        CodeKind::Matrix => labels::matrix_label(code),
+    match labels::label(kind, edition, code) {
+        LabelAnswer::Labelled(found) => Answer::Label(found),
+        LabelAnswer::Refused(refusal) => Answer::Refused(refusal),
     }
 }
 
@@ -105,6 +105,6 @@ pub fn ask(request: Request) -> Answer
     match request {
         Request::Pixel(call, s, p) => ask_pixel(call, s, p),
         Request::Sample(kind, s, v) => ask_sample(kind, s, v),
-        Request::Label(kind, code) => Answer::Label(label_of(kind, code)),
+        Request::Label(kind, edition, code) => ask_label(kind, edition, code),
     }
 }

@@ -1,15 +1,15 @@
-// Reading the words of a request. Word 0 says what is asked, words 1 to 8 are the setting, and the samples follow it. Who asks says which byte
-// stands between words, and the names of the two ranges, narrow and full, with a blank between them.
+// Reading the words of a request. Words 1 to 8 are the setting, and the samples follow it. Who asks has read what stands before them, and says
+// which edition is meant, which byte stands between words, and the names of the two ranges, narrow and full, with a blank between them.
 ghost use mathlib.Core.Path.{_≡_};
 ghost use Prim.Native.Nat.{_≤_, _<_, min};
 ghost use Rattle.request.specs.Form.{numberWord, rangeWord, endOfWords, settingWords, pixelWords, expectedWith, expectedBefore, expectedAt, expectedSample, pixelForm, sampleForm, labelForm};
-use crate::CodeKind;
 use crate::Request;
 use meter::SampleKind;
 use sample::Pixel;
 use setting::Call;
 use setting::Setting;
 use setting::Way;
+use setting::label::CodeKind;
 use text::reading;
 use text::reading::Number;
 
@@ -46,7 +46,7 @@ pub enum Asked {
 pub const CLEAR: u8 = 255;
 
 // The largest code or depth that a word may say, and the largest sample.
-const LARGEST_BYTE: u64 = 255;
+pub const LARGEST_BYTE: u64 = 255;
 
 pub const LARGEST_SAMPLE: u64 = sample::PAST_SAMPLES - 1;
 
@@ -115,8 +115,8 @@ fn end_of_words(s: &[u8], gap: u8, n: u8, fault: u8) -> u8
     }
 }
 
-pub fn setting_words(s: &[u8], gap: u8, ranges: &[u8]) -> ReadSetting
-    ensures { λ r. ⌜ r ≡ settingWords gap (now (s .entry)) (now (ranges .entry)) ⌝ }
+pub fn setting_words(edition: u8, s: &[u8], gap: u8, ranges: &[u8]) -> ReadSetting
+    ensures { λ r. ⌜ r ≡ settingWords edition gap (now (s .entry)) (now (ranges .entry)) ⌝ }
 {
     let primaries = number_word(s, gap, 1, LARGEST_BYTE, CLEAR);
     let transfer = number_word(s, gap, 2, LARGEST_BYTE, primaries.fault);
@@ -135,6 +135,7 @@ pub fn setting_words(s: &[u8], gap: u8, ranges: &[u8]) -> ReadSetting
         c_depth: c_depth.value as u8,
         rgb_full: rgb_range.value == 1,
         ycc_full: ycc_range.value == 1,
+        edition,
     };
     ReadSetting {
         setting,
@@ -215,10 +216,10 @@ fn expected_sample(kind: SampleKind) -> Expected
 }
 
 // A setting and three samples.
-pub fn pixel_form(call: Call, s: &[u8], gap: u8, ranges: &[u8]) -> Asked
-    ensures { λ r. ⌜ r ≡ pixelForm call gap (now (s .entry)) (now (ranges .entry)) ⌝ }
+pub fn pixel_form(call: Call, edition: u8, s: &[u8], gap: u8, ranges: &[u8]) -> Asked
+    ensures { λ r. ⌜ r ≡ pixelForm call edition gap (now (s .entry)) (now (ranges .entry)) ⌝ }
 {
-    let w = setting_words(s, gap, ranges);
+    let w = setting_words(edition, s, gap, ranges);
     let p = pixel_words(s, gap, w.fault);
     let word = end_of_words(s, gap, 12, p.fault);
     if word == CLEAR {
@@ -231,11 +232,11 @@ pub fn pixel_form(call: Call, s: &[u8], gap: u8, ranges: &[u8]) -> Asked
 }
 
 // A setting and one sample, which is word n.
-pub fn sample_form(kind: SampleKind, s: &[u8], gap: u8, ranges: &[u8], n: u8) -> Asked
+pub fn sample_form(kind: SampleKind, edition: u8, s: &[u8], gap: u8, ranges: &[u8], n: u8) -> Asked
     requires { ⌜ n < 254 ⌝ }
-    ensures { λ r. ⌜ r ≡ sampleForm kind gap (now (s .entry)) (now (ranges .entry)) n ⌝ }
+    ensures { λ r. ⌜ r ≡ sampleForm kind edition gap (now (s .entry)) (now (ranges .entry)) n ⌝ }
 {
-    let w = setting_words(s, gap, ranges);
+    let w = setting_words(edition, s, gap, ranges);
     let v = number_word(s, gap, n, LARGEST_SAMPLE, w.fault);
     let word = end_of_words(s, gap, n + 1, v.fault);
     if word == CLEAR {
@@ -252,15 +253,15 @@ pub fn sample_form(kind: SampleKind, s: &[u8], gap: u8, ranges: &[u8], n: u8) ->
 }
 
 // One code, which is word n.
-pub fn label_form(kind: CodeKind, s: &[u8], gap: u8, n: u8) -> Asked
+pub fn label_form(kind: CodeKind, edition: u8, s: &[u8], gap: u8, n: u8) -> Asked
     requires { ⌜ n < 254 ⌝ }
-    ensures { λ r. ⌜ r ≡ labelForm kind gap (now (s .entry)) n ⌝ }
+    ensures { λ r. ⌜ r ≡ labelForm kind edition gap (now (s .entry)) n ⌝ }
 {
     let v = number_word(s, gap, n, LARGEST_BYTE, CLEAR);
     let word = end_of_words(s, gap, n + 1, v.fault);
     if word == CLEAR {
         let code = v.value as u8;
-        return Asked::For(Request::Label(kind, code));
+        return Asked::For(Request::Label(kind, edition, code));
     }
     if word == n {
         return Asked::Fault {

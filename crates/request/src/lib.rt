@@ -6,19 +6,13 @@ use meter::SampleKind;
 use sample::Pixel;
 use setting::Call;
 use setting::Setting;
-
-// The three kinds of code point.
-pub enum CodeKind {
-    Primaries,
-    Transfer,
-    Matrix,
-}
+use setting::label::CodeKind;
 
 pub enum Request {
     // convert a pixel, check it for a source, or meter it
     Pixel(Call, Setting, Pixel),
     // meter one sample
     Sample(SampleKind, Setting, u16),
-    // ask for a code's label
-    Label(CodeKind, u8),
+    // ask for the label that an edition gives a code, by their numbers in this order
+    Label(CodeKind, u8, u8),
 }

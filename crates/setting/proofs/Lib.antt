@@ -3,3 +3,4 @@ pub mod Codes
 pub mod LabelLaws
 pub mod Table
 pub mod ReadyLaws
+pub mod EditionLaws

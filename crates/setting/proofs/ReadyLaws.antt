@@ -16,9 +16,10 @@ use Rattle.refusal.proofs.RuleLaws.{passed-over}
 use Rattle.levels.specs.Conversion.{MatrixFits}
 use Rattle.levels.specs.Equations.{allParts, weights}
 use Rattle.levels.proofs.Bounds.{luma-fits, shares}
-use Rattle.setting.specs.Matrix.{lumaEntry, matrixOf}
+use Rattle.setting.specs.Edition.{editionOf}
+use Rattle.setting.specs.Matrix.{lumaEntry}
 use Rattle.setting.specs.Agreement.{depthsServed, bonded, agree, keeps, answers}
-use Rattle.setting.specs.Rules.{entryOf, entry, depths, depthRules, entryRules, settingRules, served}
+use Rattle.setting.specs.Rules.{entryOf, matrixIn, entry, depths, depthRules, entryRules, settingRules, served}
 use Rattle.setting.specs.Ready.{Agreed, Ready, Keeping, Keeps}
 use Rattle.setting.specs.declared.Call.{Call}
 use Rattle.setting.specs.declared.Call.the-variants as call
@@ -50,8 +51,8 @@ Sound m = SoundAs (entryOf m .formulas) (entryOf m)
 luma-sound : (kr kb : ℕ) → kr + kb < allParts → Sound (matrix.Served (lumaEntry kr kb))
 luma-sound kr kb h = (luma-fits (weights kr kb) (shares kr kb h), (refl, refl))
 
-sound : (code : ℕ) → Sound (matrixOf code)
-sound = at-code Sound (refl, refl) (search (luma-sound, needs) depth 60)
+sound : (s : Setting) → Sound (matrixIn s)
+sound s = at-code Sound (refl, refl) (search (luma-sound, needs) depth 60) (editionOf (s .edition)) (s .matrix)
 
 -- Y is no less deep than RGB where a bond binds them
 bond-holds : (b : Bond) (d : Depths) (rgb ycc : Bool) → Bound b → bonded b d rgb ycc ≡ true → d .rgb .0 ≤ d .luma .0
@@ -66,7 +67,7 @@ module _ (call : Call) (s : Setting) (e : first (settingRules call s) ≡ Passed
   d = depths s
 
   past-3 : first (entryRules call (entry s) s) ≡ Passed
-  past-3 = passed-over _ _ (passed-over _ _ (passed-over _ _ e .1) .1) .1
+  past-3 = passed-over _ _ (passed-over _ _ (passed-over _ _ (passed-over _ _ e .1) .1) .1) .1
 
   past-5 : first (depthRules call (entry s) s) ≡ Passed
   past-5 = passed-over _ _ (passed-over _ _ past-3 .1) .1
@@ -117,7 +118,7 @@ module _ (call : Call) (s : Setting) (e : first (settingRules call s) ≡ Passed
       )
 
   pub ready : Ready (served s)
-  ready = record { three = three; agreed = agreed (entry s .formulas) (sound (s .matrix)) }
+  ready = record { three = three; agreed = agreed (entry s .formulas) (sound s) }
 
 -- a setting that the image check takes loses nothing
 keeping : (s : Setting) (f : Formulas) → SoundAs f (entry s) → keeps (entry s .lossless) (depths s) ≡ true → Keeping f (served s)
@@ -126,4 +127,4 @@ keeping s YCgCo k e = leb-true _ _ (subst (λ l. keeps l (depths s) ≡ true) (k
 keeping s (Levels m) k e = let q : keeps Never (depths s) ≡ true = subst (λ l. keeps l (depths s) ≡ true) (k .1 .1) e in true≢false (sym q)
 
 pub is-kept : (s : Setting) → first (settingRules call.ImageCheck s) ≡ Passed → Keeps (served s)
-is-kept s e = keeping s (entry s .formulas) (sound (s .matrix)) (rule-11 call.ImageCheck s e)
+is-kept s e = keeping s (entry s .formulas) (sound s) (rule-11 call.ImageCheck s e)

@@ -1,8 +1,11 @@
--- Which code points are assigned, unspecified or reserved.
+-- Which code points are assigned, unspecified or reserved. The editions differ in matrices alone.
 use mathlib.Core.Bool.{Bool, true, false, cond, _&&_}
 use mathlib.Core.List.{List, [], _∷_}
 use Prim.Native.Nat.{ℕ}
 use lib.Dec.{leb, eqb}
+use Rattle.setting.specs.declared.edition.Edition.{Edition}
+use Rattle.setting.specs.declared.label.CodeKind.{CodeKind}
+use Rattle.setting.specs.declared.label.CodeKind.the-variants as kind
 use Rattle.setting.specs.declared.label.Label.{Label}
 use Rattle.setting.specs.declared.label.Label.the-variants as label
 use Rattle.setting.specs.declared.matrix.Matrix.{Matrix}
@@ -39,8 +42,14 @@ labelOf Unserved = label.Assigned
 labelOf Unspecified = label.Unspecified
 labelOf Reserved = label.Reserved
 
-abbrev pub matrixLabel : ℕ → Label
-matrixLabel n = labelOf (matrixOf n)
+abbrev pub matrixLabel : Edition → ℕ → Label
+matrixLabel e n = labelOf (matrixOf e n)
+
+-- THE label of a code of each kind
+abbrev pub labelFor : CodeKind → Edition → ℕ → Label
+labelFor kind.Primaries e n = primariesLabel n
+labelFor kind.Transfer e n = transferLabel n
+labelFor kind.Matrix e n = matrixLabel e n
 
 -- the number of a label: 0 assigned, 1 unspecified, 2 reserved
 abbrev pub labelNumber : Label → ℕ

@@ -1,10 +1,13 @@
--- H.273's table 4: the matrix of each code, as an entry of data. Codes have the numbers of the published third edition.
+-- H.273's table 4: the matrix of each code, as an entry of data. The editions have codes 0 to 14 in common; what each adds after them has its
+-- one home here.
 use mathlib.Core.Bool.{true, false}
-use mathlib.Core.List.{List, [], _∷_}
+use mathlib.Core.List.{List, [], _∷_, _++_}
 use Prim.Native.Nat.{ℕ}
 use lib.ListN.{getD}
 use Rattle.sample.specs.Depth.{mostDepth, mostLevelDepth}
 use Rattle.levels.specs.Equations.{weights, lumaMatrix}
+use Rattle.setting.specs.declared.edition.Edition.{Edition}
+use Rattle.setting.specs.declared.edition.Edition.the-variants.{Of2021, Draft, Published}
 use Rattle.setting.specs.declared.matrix.Bond.the-variants.{Bits, Free}
 use Rattle.setting.specs.declared.matrix.Entry.{Entry}
 use Rattle.setting.specs.declared.matrix.Formulas.the-variants.{ChangePlaces, YCgCo, Levels}
@@ -59,9 +62,9 @@ lumaEntry kr kb =
       metered = true;
     }
 
--- from code 0 on, in their order
-abbrev pub matrices : List Matrix
-matrices =
+-- in every edition, from code 0 on
+abbrev pub common : List Matrix
+common =
     Served changedPlaces  -- 0
     ∷ Served (lumaEntry 2126 722)  -- 1
     ∷ Unspecified  -- 2
@@ -77,11 +80,14 @@ matrices =
     ∷ Unserved  -- 12
     ∷ Unserved  -- 13
     ∷ Unserved  -- 14
-    ∷ Unserved  -- 15
-    ∷ Served ycgcoRe  -- 16
-    ∷ Served ycgcoRo  -- 17
     ∷ []
 
+-- and in each edition from code 15 on
+abbrev pub added : Edition → List Matrix
+added Of2021 = []
+added Draft = Served ycgcoRe ∷ Served ycgcoRo ∷ []
+added Published = Unserved ∷ Served ycgcoRe ∷ Served ycgcoRo ∷ []
+
 -- every code after them is reserved
-unfoldable pub matrixOf : ℕ → Matrix
-matrixOf code = getD matrices code Reserved
+unfoldable pub matrixOf : Edition → ℕ → Matrix
+matrixOf e code = getD (common ++ added e) code Reserved

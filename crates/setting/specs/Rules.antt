@@ -1,5 +1,5 @@
--- Rules 1 to 7 and 11 on a setting, in the order in which they are tested. This is the one place that gives them.
-use mathlib.Core.Bool.{Bool, not, cond}
+-- Rules 12, 1 to 7 and 11 on a setting, in the order in which they are tested. This is the one place that gives them.
+use mathlib.Core.Bool.{Bool, true, false, not, cond}
 use mathlib.Core.List.{List, [], _∷_}
 use Prim.Native.Nat.{ℕ}
 use lib.Dec.{eqb}
@@ -10,6 +10,7 @@ use Rattle.sample.specs.declared.DepthsChecked.the-variants as checked
 use Rattle.refusal.specs.Rules.{Rule, rule, first}
 use Rattle.refusal.specs.declared.Check.{Check}
 use Rattle.refusal.specs.declared.Check.the-variants as check
+use Rattle.setting.specs.Edition.{editionOf}
 use Rattle.setting.specs.Matrix.{changedPlaces, matrixOf}
 use Rattle.setting.specs.Label.{primariesLabel, transferLabel, isReserved}
 use Rattle.setting.specs.Agreement.{depthsServed, agree, answers}
@@ -18,6 +19,8 @@ use Rattle.setting.specs.declared.Setting.{Setting}
 use Rattle.setting.specs.declared.admission.Admission.{Admission}
 use Rattle.setting.specs.declared.admission.Admission.the-variants as admission
 use Rattle.setting.specs.declared.admission.Served.{Served}
+use Rattle.setting.specs.declared.edition.EditionChecked.{EditionChecked}
+use Rattle.setting.specs.declared.edition.EditionChecked.the-variants as edition
 use Rattle.setting.specs.declared.matrix.Entry.{Entry}
 use Rattle.setting.specs.declared.matrix.Matrix.{Matrix}
 use Rattle.setting.specs.declared.matrix.Matrix.the-variants as matrix
@@ -36,8 +39,16 @@ entryOf matrix.Reserved = changedPlaces
 entryOf matrix.Unspecified = changedPlaces
 entryOf matrix.Unserved = changedPlaces
 
+-- what a code means in an edition: nothing in one that is none, which rule 12 refuses before this is asked
+abbrev pub matrixBy : EditionChecked → ℕ → Matrix
+matrixBy (edition.Edition e) code = matrixOf e code
+matrixBy edition.Unknown code = matrix.Reserved
+
+abbrev pub matrixIn : Setting → Matrix
+matrixIn s = matrixBy (editionOf (s .edition)) (s .matrix)
+
 abbrev pub entry : Setting → Entry
-entry s = entryOf (matrixOf (s .matrix))
+entry s = entryOf (matrixIn s)
 
 abbrev pub depths : Setting → Depths
 depths s = depthsOf (s .«rgb_depth») (s .«y_depth») (s .«c_depth»)
@@ -57,7 +68,7 @@ entryRules call e s =
     ∷ rule 5 (isReserved (transferLabel (s .transfer)))
     ∷ depthRules call e s
 
--- and those on its matrix first
+-- and those on its matrix before these
 abbrev pub matrixRules : Call → Matrix → Setting → List Rule
 matrixRules call m s =
     rule 1 (eqb (standing m) 1)
@@ -65,9 +76,17 @@ matrixRules call m s =
     ∷ rule 3 (eqb (standing m) 3)
     ∷ entryRules call (entryOf m) s
 
--- THE rules on a setting
+-- the edition's own rule
+abbrev pub isUnknown : EditionChecked → Bool
+isUnknown (edition.Edition e) = false
+isUnknown edition.Unknown = true
+
+abbrev pub editionRule : ℕ → Rule
+editionRule n = rule 12 (isUnknown (editionOf n))
+
+-- THE rules on a setting: the edition's comes first
 abbrev pub settingRules : Call → Setting → List Rule
-settingRules call s = matrixRules call (matrixOf (s .matrix)) s
+settingRules call s = editionRule (s .edition) ∷ matrixRules call (matrixIn s) s
 
 -- rule 6's part: the depths, where they are served
 unfoldable pub servedDepths : ℕ → ℕ → ℕ → ℕ → DepthsChecked

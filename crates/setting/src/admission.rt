@@ -1,11 +1,13 @@
-// Who is let in: the rules on a setting, in their order. Past rule 6 only the depth types are passed on.
+// Who is let in: the rules on a setting, in their order. Past rule 12 only the type of editions is passed on, and past rule 6 only the depth types.
 ghost use mathlib.Core.Path.{_≡_};
 ghost use mathlib.Core.Bool.{_&&_};
 ghost use Rattle.refusal.specs.Rules.{first, numbered};
 ghost use Rattle.setting.specs.Agreement.{same, isDeeper, bonded, deeperBy, agree, keeps, answers};
-ghost use Rattle.setting.specs.Rules.{depthRules, entryRules, servedDepths, servedBy, admitted, settingAdmission};
+ghost use Rattle.setting.specs.Rules.{depthRules, entryOf, entryRules, matrixRules, servedDepths, servedBy, admitted, settingAdmission};
 use crate::Call;
 use crate::Setting;
+use crate::edition;
+use crate::edition::EditionChecked;
 use crate::label;
 use crate::matrix;
 use crate::matrix::Bond;
@@ -182,15 +184,33 @@ fn admit_entry(call: Call, e: Entry, s: Setting) -> Admission
     admit_depths(call, e, s)
 }
 
-// The first of the rules on a setting that applies, or the setting in checked kinds.
-pub fn admit(call: Call, s: Setting) -> Admission
-    ensures { λ r. ⌜ r ≡ settingAdmission call s ⌝ }
+// Rules 1 to 3 on what the code means, and then those on its entry.
+fn admit_matrix(call: Call, m: Matrix, s: Setting) -> Admission
+    ensures { λ r. ⌜ r ≡ admitted (first (matrixRules call m s)) (servedBy (entryOf m) s) ⌝ }
 {
-    let code = s.matrix;
-    match matrix::matrix_of(code) {
+    match m {
         Matrix::Reserved => refused(Refusal::RESERVED_MATRIX),
         Matrix::Unspecified => refused(Refusal::UNSPECIFIED_MATRIX),
         Matrix::Unserved => refused(Refusal::UNSERVED_MATRIX),
         Matrix::Served(entry) => admit_entry(call, entry, s),
     }
+}
+
+// Rule 12: in an edition that is none no code means anything, and none is looked at.
+fn without_edition() -> Admission
+    ensures { λ r. ⌜ r ≡ Admission.Refused (numbered 12) ⌝ }
+{
+    refused(Refusal::UNKNOWN_EDITION)
+}
+
+// The first of the rules on a setting that applies, or the setting in checked kinds.
+pub fn admit(call: Call, s: Setting) -> Admission
+    ensures { λ r. ⌜ r ≡ settingAdmission call s ⌝ }
+{
+    let number = s.edition;
+    let code = s.matrix;
+    let EditionChecked::Edition(edition) = edition::edition_of(number) else {
+        return without_edition();
+    };
+    admit_matrix(call, matrix::matrix_of(edition, code), s)
 }

@@ -1,7 +1,15 @@
 // What H.273 says of a code point of each kind.
 ghost use mathlib.Core.Path.{_≡_};
-ghost use Rattle.setting.specs.Label.{primariesLabel, transferLabel, matrixLabel, isReserved};
+ghost use Rattle.setting.specs.Label.{primariesLabel, transferLabel, matrixLabel, labelFor, isReserved};
+use crate::edition::Edition;
 use crate::matrix::Matrix;
+
+// The three kinds of code point.
+pub enum CodeKind {
+    Primaries,
+    Transfer,
+    Matrix,
+}
 
 pub enum Label {
     Assigned,
@@ -9,7 +17,7 @@ pub enum Label {
     Reserved,
 }
 
-pub fn primaries_label(code: u8) -> Label
+pub(crate) fn primaries_label(code: u8) -> Label
     ensures { λ r. ⌜ r ≡ primariesLabel code ⌝ }
 {
     match code {
@@ -19,7 +27,7 @@ pub fn primaries_label(code: u8) -> Label
     }
 }
 
-pub fn transfer_label(code: u8) -> Label
+pub(crate) fn transfer_label(code: u8) -> Label
     ensures { λ r. ⌜ r ≡ transferLabel code ⌝ }
 {
     match code {
@@ -29,14 +37,25 @@ pub fn transfer_label(code: u8) -> Label
     }
 }
 
-pub fn matrix_label(code: u8) -> Label
-    ensures { λ r. ⌜ r ≡ matrixLabel code ⌝ }
+fn matrix_label(edition: Edition, code: u8) -> Label
+    ensures { λ r. ⌜ r ≡ matrixLabel edition code ⌝ }
 {
-    match crate::matrix::matrix_of(code) {
+    match crate::matrix::matrix_of(edition, code) {
         Matrix::Served(_) => Label::Assigned,
         Matrix::Unserved => Label::Assigned,
         Matrix::Unspecified => Label::Unspecified,
         Matrix::Reserved => Label::Reserved,
+    }
+}
+
+// The label of a code of any kind.
+pub fn label_for(kind: CodeKind, edition: Edition, code: u8) -> Label
+    ensures { λ r. ⌜ r ≡ labelFor kind edition code ⌝ }
+{
+    match kind {
+        CodeKind::Primaries => primaries_label(code),
+        CodeKind::Transfer => transfer_label(code),
+        CodeKind::Matrix => matrix_label(edition, code),
     }
 }
 

@@ -1,5 +1,6 @@
-// Settings: what the codes mean, and which of rules 1 to 7 and 11 refuses one first.
+// Settings: what the codes mean in each edition, and which of rules 12, 1 to 7 and 11 refuses one first.
 pub mod admission;
+pub mod edition;
 pub mod label;
 pub mod matrix;
 
@@ -17,6 +18,8 @@ pub struct Setting {
     pub c_depth: u8,
     pub rgb_full: bool,
     pub ycc_full: bool,
+    // the number of the edition that its codes are read by
+    pub edition: u8,
 }
 
 // R, G, B to Y, Cb, Cr, or back.

@@ -1,8 +1,9 @@
 // The table of matrices: which codes are served, and all that is known of each.
 ghost use mathlib.Core.Path.{_≡_};
-ghost use Prim.Native.Nat.{_+_, _<_};
+ghost use Prim.Native.Nat.{_+_, _≤_, _<_};
 ghost use Rattle.levels.specs.Equations.{allParts};
 ghost use Rattle.setting.specs.Matrix.{changedPlaces, ycgco, lumaEntry, matrixOf};
+use crate::edition::Edition;
 use levels::equations::LevelMatrix;
 
 // How the samples of a matrix are made.
@@ -93,8 +94,29 @@ fn luma(kr: u64, kb: u64) -> Entry
     }
 }
 
-pub(crate) fn matrix_of(code: u8) -> Matrix
-    ensures { λ r. ⌜ r ≡ matrixOf code ⌝ }
+// Codes from 15 on, which are each edition's own.
+fn added(edition: Edition, code: u8) -> Matrix
+    requires { ⌜ 15 ≤ code ⌝ }
+    ensures { λ r. ⌜ r ≡ matrixOf edition code ⌝ }
+{
+    match edition {
+        Edition::Of2021 => Matrix::Reserved,
+        Edition::Draft => match code {
+            15 => Matrix::Served(ycgco(2, 0)),
+            16 => Matrix::Served(ycgco(1, 0)),
+            _ => Matrix::Reserved,
+        },
+        Edition::Published => match code {
+            15 => Matrix::Unserved,
+            16 => Matrix::Served(ycgco(2, 0)),
+            17 => Matrix::Served(ycgco(1, 0)),
+            _ => Matrix::Reserved,
+        },
+    }
+}
+
+pub(crate) fn matrix_of(edition: Edition, code: u8) -> Matrix
+    ensures { λ r. ⌜ r ≡ matrixOf edition code ⌝ }
 {
     match code {
         0 => Matrix::Served(changed_places()),
@@ -104,9 +126,8 @@ pub(crate) fn matrix_of(code: u8) -> Matrix
         7 => Matrix::Served(luma(2120, 870)),
         9 => Matrix::Served(luma(2627, 593)),
         8 => Matrix::Served(ycgco(0, 1)),
-        16 => Matrix::Served(ycgco(2, 0)),
-        17 => Matrix::Served(ycgco(1, 0)),
-        10..=15 => Matrix::Unserved,
+        10..=14 => Matrix::Unserved,
+        15..=17 => added(edition, code),
         2 => Matrix::Unspecified,
         3 | 18..=255 => Matrix::Reserved,
     }

@@ -2,7 +2,7 @@
 use mathlib.Core.Path.{_≡_, refl, sym, ap, _∙_}
 use mathlib.Core.Bool.{Bool, true, false, true≢false, cond, _&&_}
 use mathlib.Core.List.{List, [], _∷_}
-use Prim.Native.Nat.{ℕ, suc, _+_, _-_, _≤_, _<_}
+use Prim.Native.Nat.{ℕ, zero, suc, _+_, _-_, _≤_, _<_}
 use native.Mathlib.Decide.{decLt}
 use native.Mathlib.Nat.{add-zero}
 use native.Mathlib.Numerals.{add-one}
@@ -107,6 +107,12 @@ module _ (gap : ℕ) (s : List ℕ) (at : ℕ) where
       go (no f) = rw (split-over gap s (length s) (omega arith), split-over gap s at (omega arith))
 
 -- words counted from the front
+-- no word starts past the text's end
+pub start-within : (gap : ℕ) (s : List ℕ) (n : ℕ) → startOf gap s n ≤ length s
+unfolding startOf
+start-within gap s zero = omega arith
+start-within gap s (suc n) = omega arith
+
 pub starts-first : (gap : ℕ) (s : List ℕ) → Starts gap s 0 0
 unfolding startOf
 starts-first gap s = record { is = refl; words = refl }

@@ -47,6 +47,14 @@ pub fn start_of(s: &[u8], gap: u8, n: u8) -> usize
     start
 }
 
+// The text from word n on, or an empty part where there is none.
+pub fn words_from(s: &[u8], gap: u8, n: u8) -> &[u8]
+    ensures { λ r. ⌜ split gap (now r) ≡ drop n (split gap (now (s .entry))) ⌝ }
+{
+    let start = start_of(s, gap, n);
+    &s[start..]
+}
+
 // The word that starts at a position, or an empty part at the text's end.
 pub fn word_from(s: &[u8], gap: u8, at: usize) -> &[u8]
     ensures { λ r. ⌜ now r ≡ wordOf gap (drop at (now (s .entry))) 0 ⌝ }

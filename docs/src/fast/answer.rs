@@ -23,6 +23,7 @@ impl Numbers<'_> {
 
     fn setting(&mut self) -> Setting {
         Setting {
+            edition: self.next(),
             primaries: self.next(),
             transfer: self.next(),
             matrix: self.next(),

@@ -8,6 +8,7 @@ use corkplover as cork;
 
 fn for_box(s: &Setting) -> cork::Setting {
     cork::Setting {
+        edition: s.edition,
         primaries: s.primaries,
         transfer: s.transfer,
         matrix: s.matrix,

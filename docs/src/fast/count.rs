@@ -5,13 +5,15 @@
 mod converters;
 mod frame;
 mod luma;
+mod measured;
 mod pictures;
 mod setting;
 mod yardstick;
 
 use converters::{by_box, by_yardstick, check_by_box};
+use measured::{CODE_1, LOSSLESS};
 use pictures::{Planes, Shape};
-use setting::{Setting, Way};
+use setting::Way;
 
 /// Under a name of its own, by which it is found.
 #[no_mangle]
@@ -24,9 +26,6 @@ fn main() {
     let words: Vec<String> = std::env::args().skip(1).collect();
     let size = |word: &String| word.parse().expect("a width or a height");
     let shape = Shape::packed(size(&words[1]), size(&words[2]));
-    let code_1 =
-        Setting { primaries: 1, transfer: 1, matrix: 1, rgb_depth: 8, y_depth: 8, c_depth: 8, rgb_full: true, ycc_full: true };
-    let lossless = Setting { matrix: 8, c_depth: 9, ..code_1 };
     let source = pictures::random(shape.source_length(), [8; 3]);
     let mut output = pictures::filled(shape.output_length());
     let convert = |s, way, to: &mut Planes| {
@@ -34,13 +33,13 @@ fn main() {
     };
     match words[0].as_str() {
         "yardstick" => yardstick_frame(&shape, &source, &mut output),
-        "luma-forward" => convert(&code_1, Way::Forward, &mut output),
-        "luma-reverse" => convert(&code_1, Way::Reverse, &mut output),
-        "lossless-forward" => convert(&lossless, Way::Forward, &mut output),
-        "lossless-reverse" => convert(&lossless, Way::Reverse, &mut output),
+        "luma-forward" => convert(&CODE_1, Way::Forward, &mut output),
+        "luma-reverse" => convert(&CODE_1, Way::Reverse, &mut output),
+        "lossless-forward" => convert(&LOSSLESS, Way::Forward, &mut output),
+        "lossless-reverse" => convert(&LOSSLESS, Way::Reverse, &mut output),
         "image-check" => {
-            convert(&lossless, Way::Forward, &mut output);
-            assert!(check_by_box(&lossless, &shape, pictures::to_read(&output)), "every pixel has a source");
+            convert(&LOSSLESS, Way::Forward, &mut output);
+            assert!(check_by_box(&LOSSLESS, &shape, pictures::to_read(&output)), "every pixel has a source");
         }
         other => panic!("{} is not counted", other),
     }

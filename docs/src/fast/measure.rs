@@ -11,6 +11,7 @@ mod frame;
 mod jobs;
 mod literal;
 mod luma;
+mod measured;
 mod pictures;
 mod rivals;
 mod setting;
@@ -20,13 +21,11 @@ mod yardstick;
 use bench::{at_most, at_most_of, Bench, LARGE};
 use converters::{by_biased_yardstick, by_yardstick, check_by_box};
 use jobs::{Jobs, Ticket};
+use measured::{CODE_1, LOSSLESS};
 use pictures::{Read, Shape, Write};
 use setting::{Setting, Way};
 use std::rc::Rc;
 
-const CODE_1: Setting =
-    Setting { primaries: 1, transfer: 1, matrix: 1, rgb_depth: 8, y_depth: 8, c_depth: 8, rgb_full: true, ycc_full: true };
-const LOSSLESS: Setting = Setting { matrix: 8, c_depth: 9, ..CODE_1 };
 const WAYS: [(Way, &str); 2] = [(Way::Forward, "forward"), (Way::Reverse, "reverse")];
 
 /// The yardstick, which is the first job, and what else is measured for information.

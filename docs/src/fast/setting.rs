@@ -1,7 +1,13 @@
-//! Settings, and refusals 1 to 7.
+//! Settings, and refusals 12 and 1 to 7.
+
+/// The numbers of the editions of H.273: the text of 2021, the draft of the third edition, and the third edition as published.
+const OF_2021: u8 = 1;
+const DRAFT: u8 = 2;
+pub const PUBLISHED: u8 = 3;
 
 #[derive(Clone, Copy, Debug)]
 pub struct Setting {
+    pub edition: u8,
     pub primaries: u8,
     pub transfer: u8,
     pub matrix: u8,
@@ -44,6 +50,9 @@ impl Setting {
     }
 
     pub fn formulas(&self) -> Result<Formulas, Refusal> {
+        if !(OF_2021..=PUBLISHED).contains(&self.edition) {
+            return Err(Refusal::Number(12));
+        }
         let (formulas, agrees) = self.by_matrix().map_err(Refusal::Number)?;
         if !matches!(self.primaries, 1 | 2 | 4..=12 | 22) {
             return Err(Refusal::Number(4));
@@ -62,25 +71,25 @@ impl Setting {
         }
     }
 
-    /// What the matrix code stands for, and whether depths and flags agree with it; or a refusal.
+    /// What the matrix code stands for in the edition, and whether depths and flags agree with it; or a refusal.
     fn by_matrix(&self) -> Result<(Formulas, bool), u8> {
         let [rgb, y, c] = [self.rgb_depth, self.y_depth, self.c_depth].map(u32::from);
         let equal_flags = self.rgb_full == self.ycc_full;
         let luma = |kr, kb| Ok((Formulas::Luma { kr, kb }, c == y));
         let deeper = |bits| Ok((Formulas::Lossless, y == rgb + bits && c == y && equal_flags));
-        match self.matrix {
-            0 => Ok((Formulas::Swap, rgb == y && y == c && equal_flags)),
-            1 => luma(2126, 722),
-            2 => Err(2),
-            4 => luma(3000, 1100),
-            5 | 6 => luma(2990, 1140),
-            7 => luma(2120, 870),
-            8 if c == y => Ok((Formulas::Lossy, rgb == y && equal_flags)),
-            8 => Ok((Formulas::Lossless, rgb == y && c == y + 1 && equal_flags)),
-            9 => luma(2627, 593),
-            10..=15 => Err(3),
-            16 => deeper(2),
-            17 => deeper(1),
+        match (self.matrix, self.edition) {
+            (0, _) => Ok((Formulas::Swap, rgb == y && y == c && equal_flags)),
+            (1, _) => luma(2126, 722),
+            (2, _) => Err(2),
+            (4, _) => luma(3000, 1100),
+            (5 | 6, _) => luma(2990, 1140),
+            (7, _) => luma(2120, 870),
+            (8, _) if c == y => Ok((Formulas::Lossy, rgb == y && equal_flags)),
+            (8, _) => Ok((Formulas::Lossless, rgb == y && c == y + 1 && equal_flags)),
+            (9, _) => luma(2627, 593),
+            (10..=14, _) | (15, PUBLISHED) => Err(3),
+            (15, DRAFT) | (16, PUBLISHED) => deeper(2),
+            (16, DRAFT) | (17, PUBLISHED) => deeper(1),
             _ => Err(1),
         }
     }

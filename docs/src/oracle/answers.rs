@@ -2,8 +2,10 @@
 //!
 //! Pixel cases: `f` forward, `r` reverse, `s` source check, `m` meter of a
 //! pixel, `y` `b` `c` meter of one sample, `p` `t` `x` labels. Frame cases:
-//! `F` forward, `R` reverse, `I` image check. The answer to `F` and `R` has
-//! four lines, the last three of them the output planes; all others have one.
+//! `F` forward, `R` reverse, `I` image check. A setting starts with its edition,
+//! and a label case has the edition before the code. The answer to `F` and `R`
+//! has four lines, the last three of them the output planes; all others have
+//! one.
 
 use crate::rules::{self, Label, Pixel, Refusal, Setting, Side, Way};
 use crate::words::Words;
@@ -63,15 +65,14 @@ fn sample_case(mut words: Words, plane: usize) -> Result<String, String> {
     Ok(level.map_or_else(refused, |e| format!("level {:08x}", e.to_bits())))
 }
 
-fn label_case(mut words: Words, label: fn(u8) -> Label) -> Result<String, String> {
+fn label_case(
+    mut words: Words,
+    label: fn(u8, u8) -> Result<Label, Refusal>,
+) -> Result<String, String> {
+    let edition = words.number()?;
     let code = words.number()?;
     words.end()?;
-    let answer = match label(code) {
-        Label::Assigned => "assigned",
-        Label::Unspecified => "unspecified",
-        Label::Reserved => "reserved",
-    };
-    Ok(String::from(answer))
+    Ok(label(edition, code).map_or_else(refused, label_word))
 }
 
 fn frame_case(mut words: Words, way: Way) -> Result<String, String> {
@@ -129,6 +130,14 @@ fn samples(pixel: Pixel) -> String {
 fn levels(three: [f32; 3]) -> String {
     let bits = three.map(f32::to_bits);
     format!("levels {:08x} {:08x} {:08x}", bits[0], bits[1], bits[2])
+}
+
+fn label_word(label: Label) -> String {
+    String::from(match label {
+        Label::Assigned => "assigned",
+        Label::Unspecified => "unspecified",
+        Label::Reserved => "reserved",
+    })
 }
 
 fn yes_or_none(found: bool) -> String {

@@ -2,6 +2,7 @@
 //! systematic ones are in every text.
 
 mod calls;
+mod editions;
 mod rounding;
 mod samples;
 mod tables;
@@ -13,6 +14,9 @@ use crate::rules::{Pixel, Setting, Way};
 /// All calls on a pixel or sample, as their case letters.
 const CALLS: [char; 7] = ['f', 'r', 's', 'm', 'y', 'b', 'c'];
 
+/// The label calls: primaries, transfer, matrix.
+const LABELS: [char; 3] = ['p', 't', 'x'];
+
 /// The pixel cases of a seed.
 pub fn pixel_cases(seed: u64) -> String {
     let mut cases = Cases {
@@ -20,6 +24,7 @@ pub fn pixel_cases(seed: u64) -> String {
         random: Random::new(seed),
     };
     cases.labels();
+    cases.labels_without_edition();
     cases.every_matrix();
     cases.every_label_in_a_setting();
     cases.every_depth();
@@ -35,13 +40,15 @@ pub fn pixel_cases(seed: u64) -> String {
     cases.lossy_reverse();
     cases.meters();
     cases.calls_without_their_setting();
+    cases.calls_without_edition();
     cases.text
 }
 
-/// The setting's eight words.
+/// The setting's nine words.
 pub fn setting_words(s: &Setting) -> String {
     format!(
-        "{} {} {} {} {} {} {} {}",
+        "{} {} {} {} {} {} {} {} {}",
+        s.edition,
         s.primaries,
         s.transfer,
         s.matrix,
@@ -69,6 +76,11 @@ impl Cases {
         };
         self.text
             .push_str(&format!("{} {} {}\n", letter, setting_words(s), samples));
+    }
+
+    fn label(&mut self, letter: char, edition: u8, code: u8) {
+        self.text
+            .push_str(&format!("{} {} {}\n", letter, edition, code));
     }
 
     /// A pixel for the call, within the setting's depths where they are ones.

@@ -2,6 +2,7 @@
 //! its padding and past its end, which no answer may depend on.
 
 mod accepted;
+mod editions;
 mod frame;
 mod making;
 mod rows;
@@ -33,6 +34,8 @@ pub fn frame_cases(seed: u64) -> String {
     cases.strides();
     cases.refused_settings();
     cases.several_rows_broken();
+    cases.every_kind_in_each_edition();
+    cases.refused_for_edition();
     cases.large();
     cases.text
 }

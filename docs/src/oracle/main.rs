@@ -9,6 +9,7 @@ mod cases;
 mod fraction;
 mod frame_cases;
 mod halves;
+mod kinds;
 mod pixels;
 mod random;
 mod rules;

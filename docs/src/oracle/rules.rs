@@ -3,6 +3,7 @@
 //! it says. Equation numbers are those of the third-edition draft of H.273,
 //! clause 8.3.
 
+mod edition;
 mod frames;
 mod labels;
 mod luma;
@@ -17,9 +18,8 @@ mod ycgco;
 pub use frames::{convert_frame, first_without_source, Side, Size};
 pub use labels::{matrix_label, primaries_label, transfer_label, Label};
 pub use luma::{levels_forward, levels_reverse};
-pub use matrix::luma_weights;
 pub use meter::{meter_pixel, meter_sample};
 pub use numbers::Unrounded;
 pub use pixels::{convert_pixel, converted, has_source, pixel_has_source, unrounded};
 pub use refusals::{setting_refusal, Refusal};
-pub use setting::{is_lossless, output_depths, source_depths, Pixel, Setting, Way};
+pub use setting::{is_lossless, luma_weights, output_depths, source_depths, Pixel, Setting, Way};

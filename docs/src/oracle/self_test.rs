@@ -2,12 +2,13 @@
 //! brute force where the numbers are small, and against the formulas' own
 //! promises. Also checks that the case texts hold what they are made for.
 
+mod editions;
 mod formulas;
 mod texts;
 
 use crate::answers::answer_text;
 use crate::fraction::Fraction;
-use crate::worked::{EDGES, FRAMES, FRAME_ORDER, PIXELS, PIXEL_ORDER, REFUSALS};
+use crate::worked::{BY_EDITION, EDGES, FRAMES, FRAME_ORDER, PIXELS, PIXEL_ORDER, REFUSALS};
 use std::fmt::Debug;
 
 /// What every part of the test gives: nothing, or the first mismatch in words.
@@ -22,18 +23,19 @@ pub fn run() -> Result<String, String> {
         &EDGES,
         &REFUSALS,
         &PIXEL_ORDER,
+        &BY_EDITION,
         &FRAMES,
         &FRAME_ORDER,
     ] {
         test.lines(lines)?;
     }
+    test.editions()?;
     test.tiny_sources()?;
     test.all_eight_bit_sources()?;
     test.lossless_round_trips()?;
     test.solved_levels()?;
     test.greys()?;
-    test.pixel_texts()?;
-    test.frame_texts()?;
+    test.texts()?;
     Ok(format!("oracle: {} checks\n", test.checks))
 }
 
@@ -80,17 +82,21 @@ impl Test {
     fn labels(&mut self) -> Checked {
         let primaries = |n: u32| n == 1 || (4..=12).contains(&n) || n == 22;
         let transfer = |n: u32| n == 1 || (4..=18).contains(&n);
-        let matrix = |n: u32| n == 0 || n == 1 || (4..=17).contains(&n);
-        let kinds: [(char, fn(u32) -> bool); 3] =
-            [('p', primaries), ('t', transfer), ('x', matrix)];
-        for (letter, assigned) in kinds {
+        for (edition, last) in [(1, 14), (2, 16), (3, 17)] {
+            let matrix = |n: u32| n == 0 || n == 1 || (4..=last).contains(&n);
             for code in 0..256 {
-                let wanted = match code {
-                    2 => "unspecified",
-                    _ if assigned(code) => "assigned",
-                    _ => "reserved",
-                };
-                self.line(&format!("{} {}", letter, code), wanted)?;
+                for (letter, assigned) in [
+                    ('p', primaries(code)),
+                    ('t', transfer(code)),
+                    ('x', matrix(code)),
+                ] {
+                    let wanted = match code {
+                        2 => "unspecified",
+                        _ if assigned => "assigned",
+                        _ => "reserved",
+                    };
+                    self.line(&format!("{} {} {}", letter, edition, code), wanted)?;
+                }
             }
         }
         Ok(())

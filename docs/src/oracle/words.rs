@@ -39,10 +39,11 @@ impl<'a> Words<'a> {
         }
     }
 
-    /// Eight words: P T M DR DY DC FR FY. Struct fields are evaluated in the
+    /// Nine words: E P T M DR DY DC FR FY. Struct fields are evaluated in the
     /// order written here.
     pub fn setting(&mut self) -> Result<Setting, String> {
         Ok(Setting {
+            edition: self.number()?,
             primaries: self.number()?,
             transfer: self.number()?,
             matrix: self.number()?,

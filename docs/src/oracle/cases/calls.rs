@@ -2,22 +2,18 @@
 
 use super::samples::edges;
 use super::Cases;
+use crate::kinds::{kinds_by_loss, KINDS, LOSSY_YCGCO, LUMA_KINDS};
 use crate::pixels;
 use crate::rules::{converted, Setting, Way};
-use crate::settings::{self, Kind, KINDS, LUMA_CODES};
-
-/// Every accepted setting of the kind chosen by `wanted`.
-fn all_accepted(wanted: fn(&Kind) -> bool) -> Vec<Setting> {
-    let kinds = KINDS.iter().copied().filter(wanted);
-    kinds.flat_map(settings::accepted).collect()
-}
+use crate::settings;
 
 impl Cases {
     /// On each lossless setting: a pixel with a source at the edge of depth,
     /// pixels next to such ones, and one from anywhere.
     pub fn sources(&mut self) {
-        for mut s in all_accepted(|kind| kind.1) {
-            settings::relabel(&mut self.random, &mut s);
+        let lossless = kinds_by_loss(true);
+        for mut s in lossless.into_iter().flat_map(settings::accepted) {
+            settings::vary(&mut self.random, &mut s);
             let rgb = pixels::extreme_rgb(&mut self.random, &s);
             let ycc = converted(&s, Way::Forward, rgb);
             self.call('f', &s, rgb);
@@ -36,8 +32,8 @@ impl Cases {
 
     /// Lossy code 8 back, where the clip of the result does and doesn't act.
     pub fn lossy_reverse(&mut self) {
-        for mut s in settings::accepted((8, false)) {
-            settings::relabel(&mut self.random, &mut s);
+        for mut s in settings::accepted(LOSSY_YCGCO) {
+            settings::vary(&mut self.random, &mut s);
             for _ in 0..4 {
                 let rgb = pixels::extreme_rgb(&mut self.random, &s);
                 let ycc = converted(&s, Way::Forward, rgb);
@@ -66,8 +62,8 @@ impl Cases {
     }
 
     fn metered(&mut self, depth: u8, ycc_full: bool) -> Setting {
-        let matrix = self.random.pick(&LUMA_CODES);
-        let mut s = settings::good(&mut self.random, (matrix, false));
+        let kind = self.random.pick(&LUMA_KINDS);
+        let mut s = settings::good(&mut self.random, kind);
         s.y_depth = depth;
         s.c_depth = depth;
         s.ycc_full = ycc_full;

@@ -2,8 +2,9 @@
 
 use super::Cases;
 use crate::halves::{self, Target, Wanted};
+use crate::kinds::{LOSSY_YCGCO, LUMA_KINDS};
 use crate::rules::{Pixel, Setting, Way};
-use crate::settings::{self, LUMA_CODES};
+use crate::settings;
 
 /// Narrow chroma has halves only if RGB is narrow too and at least three bits
 /// deeper, and they are rare even there: these settings, each four times, so
@@ -18,8 +19,8 @@ impl Cases {
     /// For each luma code, way, plane and side of the middle: some pixels with
     /// a visible half there, and their two neighbours.
     pub fn halves_of_luma(&mut self) {
-        for matrix in LUMA_CODES {
-            let all = settings::accepted((matrix, false));
+        for kind in LUMA_KINDS {
+            let all = settings::accepted(kind);
             for plane in 0..3 {
                 self.halves(&all, Way::Forward, plane, false, 40);
                 self.halves(&all, Way::Reverse, plane, false, 40);
@@ -42,7 +43,7 @@ impl Cases {
         };
         let mut found = 0;
         for mut setting in tried {
-            settings::relabel(&mut self.random, &mut setting);
+            settings::vary(&mut self.random, &mut setting);
             let target = Target {
                 setting,
                 way,
@@ -76,7 +77,8 @@ impl Cases {
 
     /// Halves are common here; each plane and side gets some at each depth.
     pub fn halves_of_lossy_ycgco(&mut self) {
-        for setting in settings::accepted((8, false)) {
+        for mut setting in settings::accepted(LOSSY_YCGCO) {
+            settings::vary(&mut self.random, &mut setting);
             for (plane, below) in [(0, false), (1, false), (1, true), (2, false), (2, true)] {
                 let target = Target {
                     setting,
@@ -99,11 +101,11 @@ impl Cases {
     /// Both sides of 0 and of the largest sample, for each luma code, way and
     /// plane, where a random line of pixels crosses them.
     pub fn clip_edges(&mut self) {
-        for matrix in LUMA_CODES {
+        for kind in LUMA_KINDS {
             for way in [Way::Forward, Way::Reverse] {
                 for plane in 0..3 {
                     for _ in 0..8 {
-                        let setting = settings::good(&mut self.random, (matrix, false));
+                        let setting = settings::good(&mut self.random, kind);
                         let target = Target {
                             setting,
                             way,

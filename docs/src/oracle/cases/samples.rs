@@ -1,8 +1,9 @@
 //! Samples at the ends of their depth and past it.
 
 use super::Cases;
+use crate::kinds::KINDS;
 use crate::rules::{source_depths, Pixel, Setting, Way};
-use crate::settings::{self, KINDS};
+use crate::settings;
 
 /// Samples at and around every border that a plane of this depth has.
 pub fn edges(depth: u8) -> Vec<u16> {

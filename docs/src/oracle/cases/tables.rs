@@ -1,9 +1,9 @@
-//! Goes through the tables of the rules: labels, matrices, depths, flags, and
-//! every setting that is accepted.
+//! Goes through the tables of the rules: labels, matrices, depths, flags.
 
-use super::{Cases, CALLS};
+use super::{Cases, CALLS, LABELS};
+use crate::kinds::{EDITIONS, KINDS};
 use crate::rules::Setting;
-use crate::settings::{self, KINDS, LUMA_CODES};
+use crate::settings;
 
 /// Every depth that a case tries in each of the three places.
 const DEPTHS: [u8; 23] = [
@@ -12,21 +12,31 @@ const DEPTHS: [u8; 23] = [
 
 impl Cases {
     pub fn labels(&mut self) {
-        for letter in ['p', 't', 'x'] {
-            for code in 0..=255 {
-                self.text.push_str(&format!("{} {}\n", letter, code));
+        for letter in LABELS {
+            for edition in EDITIONS {
+                for code in 0..=255 {
+                    self.label(letter, edition, code);
+                }
             }
         }
     }
 
+    /// Every code in every edition: below 20, where editions differ, by three
+    /// calls in each; further on by one of the three in the first, by another
+    /// in the second and by the last in the third.
     pub fn every_matrix(&mut self) {
         for code in 0..=255u8 {
-            let good = settings::good_but_for_matrix(&mut self.random, code);
-            let third = CALLS[2 + usize::from(code) % 5];
-            for letter in ['f', 'r', third] {
-                self.call_within_depth(letter, &good);
+            let letters = ['f', 'r', CALLS[2 + usize::from(code) % 5]];
+            for edition in EDITIONS {
+                let good = settings::good_but_for_matrix(&mut self.random, edition, code);
+                let turn = (usize::from(code) + usize::from(edition)) % 3;
+                let among = if code < 20 { 0..3 } else { turn..turn + 1 };
+                for &letter in &letters[among] {
+                    self.call_within_depth(letter, &good);
+                }
             }
-            let mut bad = good;
+            let edition = self.random.pick(&EDITIONS);
+            let mut bad = settings::good_but_for_matrix(&mut self.random, edition, code);
             let row = 4 + self.random.below(4) as u8;
             settings::break_row(&mut self.random, &mut bad, row);
             let letter = self.random.pick(&CALLS);
@@ -74,24 +84,29 @@ impl Cases {
         }
     }
 
+    /// Each pair on each kind in each edition that has it.
     pub fn every_flag_pair(&mut self) {
         for kind in KINDS {
-            for pair in 0..4 {
-                let mut s = settings::good(&mut self.random, kind);
-                s.rgb_full = pair / 2 == 1;
-                s.ycc_full = pair % 2 == 1;
-                self.call_within_depth('f', &s);
-                self.call_within_depth('r', &s);
+            for edition in kind.editions() {
+                for pair in 0..4 {
+                    let mut s = settings::good_in(&mut self.random, edition, kind);
+                    s.rgb_full = pair / 2 == 1;
+                    s.ycc_full = pair % 2 == 1;
+                    let letter = self.random.pick(&['f', 'r']);
+                    self.call_within_depth(letter, &s);
+                }
             }
         }
     }
 
     /// Every set of broken rows out of 4, 5, 6, 7 and 10, under a matrix that
-    /// is reserved, unspecified, not served and of each served kind.
+    /// is reserved, unspecified, not served and of each served kind, and under
+    /// those that editions differ in.
     pub fn several_rows_broken(&mut self) {
-        for matrix in [3, 2, 12, 0, 8, 16, 17, 1] {
+        for matrix in [3, 2, 12, 0, 8, 15, 16, 17, 1] {
             for set in 0..32 {
-                let mut s = settings::good_but_for_matrix(&mut self.random, matrix);
+                let edition = self.random.pick(&EDITIONS);
+                let mut s = settings::good_but_for_matrix(&mut self.random, edition, matrix);
                 for (bit, row) in [(8, 7), (4, 6), (2, 5), (1, 4)] {
                     if set & bit != 0 {
                         settings::break_row(&mut self.random, &mut s, row);
@@ -104,23 +119,6 @@ impl Cases {
                         pixel[self.random.below(3) as usize] = 65535;
                     }
                     self.call(letter, &s, pixel);
-                }
-            }
-        }
-    }
-
-    pub fn every_accepted_setting(&mut self) {
-        for kind in KINDS {
-            let is_luma = LUMA_CODES.contains(&kind.0);
-            let letters: &[char] = if is_luma {
-                &['f', 'r']
-            } else {
-                &['f', 'r', 'r', 's']
-            };
-            for mut s in settings::accepted(kind) {
-                settings::relabel(&mut self.random, &mut s);
-                for &letter in letters {
-                    self.call_within_depth(letter, &s);
                 }
             }
         }

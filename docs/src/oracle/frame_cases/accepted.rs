@@ -1,9 +1,10 @@
 //! Frames that are converted and pictures that are checked, small and large.
 
 use super::Cases;
+use crate::kinds::{kinds_by_loss, Kind, EDITIONS, IDENTITY, KINDS};
 use crate::pixels;
 use crate::rules::{Setting, Size};
-use crate::settings::{self, Kind, KINDS};
+use crate::settings;
 
 impl Cases {
     pub fn accepted(&mut self) {
@@ -22,12 +23,12 @@ impl Cases {
     /// Image checks: all pixels with a source, one pixel without at each place
     /// of a small picture, and several without.
     pub fn images(&mut self) {
-        for kind in KINDS.iter().copied().filter(|kind| kind.1) {
+        for kind in kinds_by_loss(true) {
             for _ in 0..24 {
                 let size = self.small_size();
                 self.image(kind, size, &[]);
             }
-            if kind.0 == 0 {
+            if kind == IDENTITY {
                 continue;
             }
             let size = Size {
@@ -60,7 +61,9 @@ impl Cases {
     /// The largest width, the largest height, many rows with padding, and the
     /// largest stride. Eight bits keep their lines short.
     pub fn large(&mut self) {
+        let edition = self.random.pick(&EDITIONS);
         let eight = |matrix, c_depth| Setting {
+            edition,
             primaries: 1,
             transfer: 13,
             matrix,

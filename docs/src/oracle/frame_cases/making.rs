@@ -2,9 +2,10 @@
 
 use super::frame::{needed, way_of, Frame};
 use super::Cases;
+use crate::kinds::{Kind, KINDS};
 use crate::pixels;
 use crate::rules::{source_depths, Pixel, Setting, Side, Size};
-use crate::settings::{self, Kind, KINDS};
+use crate::settings;
 
 impl Cases {
     pub fn write(&mut self, frame: &Frame) {
@@ -15,7 +16,7 @@ impl Cases {
 
     /// A kind of setting on which the call is not refused.
     pub fn kind_for(&mut self, letter: char) -> Kind {
-        let fits = |kind: &Kind| letter != 'I' || kind.1;
+        let fits = |kind: &Kind| letter != 'I' || kind.lossless;
         let kinds: Vec<Kind> = KINDS.iter().copied().filter(fits).collect();
         self.random.pick(&kinds)
     }

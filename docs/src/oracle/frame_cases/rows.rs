@@ -1,33 +1,24 @@
-//! Refusals 1 to 7 and 11, and every set of rows broken at once.
+//! Refusals 12, 1 to 7 and 11, and every set of rows broken at once.
 
 use super::frame::Frame;
 use super::{Cases, CALLS};
-use crate::rules::Setting;
-use crate::settings::{self, KINDS};
+use crate::kinds::kinds_by_loss;
+use crate::settings;
 
 impl Cases {
-    fn break_setting(&mut self, s: &mut Setting, row: u8) {
-        match row {
-            1 => s.matrix = self.random.pick(&[3, 18, 19, 128, 255]),
-            2 => s.matrix = 2,
-            3 => s.matrix = self.random.pick(&[10, 11, 12, 13, 14, 15]),
-            _ => settings::break_row(&mut self.random, s, row),
-        }
-    }
-
-    /// Refusals 1 to 7 of every call, and 11 of the image check.
+    /// Refusals 12 and 1 to 7 of every call, and 11 of the image check.
     pub fn refused_settings(&mut self) {
         for letter in CALLS {
-            for row in 1..=7 {
+            for row in [12, 1, 2, 3, 4, 5, 6, 7] {
                 for _ in 0..10 {
                     let size = self.small_size();
                     let mut frame = self.some_frame(letter, size.height);
-                    self.break_setting(&mut frame.setting, row);
+                    settings::break_row(&mut self.random, &mut frame.setting, row);
                     self.write(&frame);
                 }
             }
         }
-        for kind in KINDS.iter().copied().filter(|kind| !kind.1) {
+        for kind in kinds_by_loss(false) {
             for _ in 0..6 {
                 let s = settings::good(&mut self.random, kind);
                 let size = self.small_size();
@@ -38,7 +29,8 @@ impl Cases {
         }
     }
 
-    /// Every set of broken rows out of 1 to 7 (as one), 11, 8, 9 and 10.
+    /// Every set of broken rows out of 1 to 7 (as one), 11, 8, 9 and 10, in an
+    /// edition and without one.
     pub fn several_rows_broken(&mut self) {
         for letter in CALLS {
             for set in 0..32 {
@@ -50,13 +42,16 @@ impl Cases {
                     let frame = self.broken(letter, not_lossless, set);
                     self.write(&frame);
                 }
+                let mut frame = self.broken(letter, not_lossless, set);
+                settings::break_row(&mut self.random, &mut frame.setting, 12);
+                self.write(&frame);
             }
         }
     }
 
     fn broken(&mut self, letter: char, not_lossless: bool, set: u32) -> Frame {
         let kind = if not_lossless {
-            self.random.pick(&[(1, false), (5, false), (8, false)])
+            self.random.pick(&kinds_by_loss(false))
         } else {
             self.kind_for(letter)
         };
@@ -80,7 +75,7 @@ impl Cases {
         if set & 1 != 0 {
             // Often 7, the last row before those of sizes and samples.
             let row = self.random.pick(&[1, 2, 3, 4, 5, 6, 7, 7, 7, 7]);
-            self.break_setting(&mut frame.setting, row);
+            settings::break_row(&mut self.random, &mut frame.setting, row);
         }
         frame
     }

@@ -1,8 +1,7 @@
 //! The luma matrices: levels, their weights, and how a level is written.
 
-use super::matrix::luma_weights;
 use super::numbers::{half_scale, max_value, Numbers, Unrounded};
-use super::setting::Setting;
+use super::setting::{luma_weights, Setting};
 use crate::fraction::Fraction;
 
 /// Which of the two level scales a plane has.
@@ -46,8 +45,8 @@ fn written(scale: Scale, full: bool, depth: u8, e: Fraction) -> Unrounded {
 }
 
 /// KR, KG, KB as fractions of one.
-fn weights(matrix: u8) -> (Fraction, Fraction, Fraction) {
-    let (kr, kb) = luma_weights(matrix).expect("a luma matrix");
+fn weights(s: &Setting) -> (Fraction, Fraction, Fraction) {
+    let (kr, kb) = luma_weights(s).expect("a luma matrix");
     let of_ten_thousand = |k| Fraction::new(k, 10_000);
     (
         of_ten_thousand(kr),
@@ -57,8 +56,8 @@ fn weights(matrix: u8) -> (Fraction, Fraction, Fraction) {
 }
 
 /// 42 to 44 over levels: ER, EG, EB to EY, EPB, EPR.
-pub fn levels_forward(matrix: u8, [er, eg, eb]: [Fraction; 3]) -> [Fraction; 3] {
-    let (kr, kg, kb) = weights(matrix);
+pub fn levels_forward(s: &Setting, [er, eg, eb]: [Fraction; 3]) -> [Fraction; 3] {
+    let (kr, kg, kb) = weights(s);
     let one = Fraction::whole(1);
     let two = Fraction::whole(2);
     let ey = kr * er + kg * eg + kb * eb;
@@ -68,8 +67,8 @@ pub fn levels_forward(matrix: u8, [er, eg, eb]: [Fraction; 3]) -> [Fraction; 3] 
 }
 
 /// 42 to 44 solved: EY, EPB, EPR to ER, EG, EB.
-pub fn levels_reverse(matrix: u8, [ey, epb, epr]: [Fraction; 3]) -> [Fraction; 3] {
-    let (kr, kg, kb) = weights(matrix);
+pub fn levels_reverse(s: &Setting, [ey, epb, epr]: [Fraction; 3]) -> [Fraction; 3] {
+    let (kr, kg, kb) = weights(s);
     let one = Fraction::whole(1);
     let two = Fraction::whole(2);
     let er = ey + two * (one - kr) * epr;
@@ -80,7 +79,7 @@ pub fn levels_reverse(matrix: u8, [ey, epb, epr]: [Fraction; 3]) -> [Fraction; 3
 
 pub fn luma_forward(s: &Setting, rgb: Numbers) -> [Unrounded; 3] {
     let levels = rgb.map(|v| level(Scale::Plain, s.rgb_full, s.rgb_depth, v));
-    let [ey, epb, epr] = levels_forward(s.matrix, levels);
+    let [ey, epb, epr] = levels_forward(s, levels);
     [
         written(Scale::Plain, s.ycc_full, s.y_depth, ey),
         written(Scale::Chroma, s.ycc_full, s.c_depth, epb),
@@ -94,5 +93,5 @@ pub fn luma_reverse(s: &Setting, [y, cb, cr]: Numbers) -> [Unrounded; 3] {
         level(Scale::Chroma, s.ycc_full, s.c_depth, cb),
         level(Scale::Chroma, s.ycc_full, s.c_depth, cr),
     ];
-    levels_reverse(s.matrix, levels).map(|e| written(Scale::Plain, s.rgb_full, s.rgb_depth, e))
+    levels_reverse(s, levels).map(|e| written(Scale::Plain, s.rgb_full, s.rgb_depth, e))
 }

@@ -1,5 +1,7 @@
-//! What each matrix code means. The codes' numbers stand in this table and
-//! nowhere else in the rules; they are those of the published third edition.
+//! What each matrix code means in each edition. The codes' numbers stand in
+//! these tables and nowhere else in the rules.
+
+use super::edition::Edition;
 
 #[derive(Clone, Copy, Debug, PartialEq, Eq)]
 pub enum Matrix {
@@ -17,27 +19,40 @@ pub enum Matrix {
     Reserved,
 }
 
-pub fn matrix_of(code: u8) -> Matrix {
+pub fn matrix_of(edition: Edition, code: u8) -> Matrix {
     match code {
         0 => Matrix::Identity,
         1 => Matrix::Luma(2126, 722),
         2 => Matrix::Unspecified,
+        3 => Matrix::Reserved,
         4 => Matrix::Luma(3000, 1100),
         5 | 6 => Matrix::Luma(2990, 1140),
         7 => Matrix::Luma(2120, 870),
         8 => Matrix::YCgCo,
         9 => Matrix::Luma(2627, 593),
-        10..=15 => Matrix::NotServed,
-        16 => Matrix::YCgCoRe,
-        17 => Matrix::YCgCoRo,
-        3 | 18..=255 => Matrix::Reserved,
+        10..=14 => Matrix::NotServed,
+        15..=255 => match edition {
+            Edition::Of2021 => Matrix::Reserved,
+            Edition::Draft => draft_from_15(code),
+            Edition::Published => published_from_15(code),
+        },
     }
 }
 
-/// KR and KB in ten-thousandths, for a luma matrix only.
-pub fn luma_weights(code: u8) -> Option<(i128, i128)> {
-    match matrix_of(code) {
-        Matrix::Luma(kr, kb) => Some((kr, kb)),
-        _ => None,
+fn draft_from_15(code: u8) -> Matrix {
+    match code {
+        15 => Matrix::YCgCoRe,
+        16 => Matrix::YCgCoRo,
+        _ => Matrix::Reserved,
+    }
+}
+
+/// The third edition put IPT-PQ-C2 before the draft's two.
+fn published_from_15(code: u8) -> Matrix {
+    match code {
+        15 => Matrix::NotServed,
+        16 => Matrix::YCgCoRe,
+        17 => Matrix::YCgCoRo,
+        _ => Matrix::Reserved,
     }
 }

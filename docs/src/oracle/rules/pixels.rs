@@ -1,10 +1,12 @@
 //! Calls on one pixel, and which formulas a setting has.
 
 use super::luma::{luma_forward, luma_reverse};
-use super::matrix::{matrix_of, Matrix};
+use super::matrix::Matrix;
 use super::numbers::{clip, within_depth, Numbers, Unrounded};
 use super::refusals::{pixel_refusal, require_lossless, setting_refusal, Refusal};
-use super::setting::{is_lossless, output_depths, source_depths, ycc_depths, Pixel, Setting, Way};
+use super::setting::{
+    is_lossless, matrix_in, output_depths, source_depths, ycc_depths, Pixel, Setting, Way,
+};
 use super::ycgco::{
     lossless_ycgco_forward, lossless_ycgco_reverse, lossy_ycgco_forward, lossy_ycgco_reverse,
     solved_lossless_ycgco,
@@ -37,7 +39,7 @@ fn finished(three: [Unrounded; 3], depths: [u8; 3]) -> Numbers {
 /// What the formulas with a Round in them hand to it; none for the others.
 pub fn unrounded(s: &Setting, way: Way, pixel: Pixel) -> Option<[Unrounded; 3]> {
     let from = pixel.map(i128::from);
-    match (matrix_of(s.matrix), way) {
+    match (matrix_in(s), way) {
         (Matrix::Luma(..), Way::Forward) => Some(luma_forward(s, from)),
         (Matrix::Luma(..), Way::Reverse) => Some(luma_reverse(s, from)),
         (Matrix::YCgCo, Way::Forward) if !is_lossless(s) => Some(lossy_ycgco_forward(s, from)),
@@ -46,7 +48,7 @@ pub fn unrounded(s: &Setting, way: Way, pixel: Pixel) -> Option<[Unrounded; 3]> 
 }
 
 fn without_round(s: &Setting, way: Way, from: Numbers) -> Numbers {
-    match (matrix_of(s.matrix), way) {
+    match (matrix_in(s), way) {
         (Matrix::Identity, Way::Forward) => identity_forward(from),
         (Matrix::Identity, Way::Reverse) => identity_reverse(from),
         (_, Way::Forward) => lossless_ycgco_forward(s, from),
@@ -77,7 +79,7 @@ pub fn pixel_has_source(s: &Setting, ycc: Pixel) -> Result<bool, Refusal> {
 /// depth, and the forward formulas themselves have to lead from it to `ycc`.
 pub fn has_source(s: &Setting, ycc: Pixel) -> bool {
     let wanted = ycc.map(i128::from);
-    let candidate = match matrix_of(s.matrix) {
+    let candidate = match matrix_in(s) {
         Matrix::Identity => identity_reverse(wanted),
         _ => solved_lossless_ycgco(s, wanted),
     };

@@ -1,10 +1,11 @@
-//! The rows of the refusal table that need no picture: 1 to 7, 11, and 10 for
-//! single pixels and samples.
+//! The rows of the refusal table that need no picture: 12, 1 to 7, 11, and 10
+//! for single pixels and samples.
 
+use super::edition::{edition_of, Edition};
 use super::labels::{primaries_label, transfer_label, Label};
-use super::matrix::{luma_weights, matrix_of, Matrix};
+use super::matrix::{matrix_of, Matrix};
 use super::numbers::within_depth;
-use super::setting::{is_lossless, Pixel, Setting};
+use super::setting::{is_lossless, luma_weights, matrix_in, Pixel, Setting};
 
 #[derive(Clone, Copy, Debug, PartialEq, Eq)]
 pub struct Place {
@@ -21,15 +22,23 @@ pub enum Refusal {
     Sample(Place, u16),
 }
 
-/// Refusals 1 to 7: the first row that holds decides.
+/// Refusal 12, which comes before all others: what else is asked of a code
+/// depends on the edition.
+pub fn named_edition(number: u8) -> Result<Edition, Refusal> {
+    edition_of(number).ok_or(Refusal::Number(12))
+}
+
+/// Refusals 12 and 1 to 7: the first row that holds decides.
 pub fn setting_refusal(s: &Setting) -> Result<(), Refusal> {
-    let matrix = matrix_of(s.matrix);
+    let matrix = matrix_of(named_edition(s.edition)?, s.matrix);
+    let primaries = primaries_label(s.edition, s.primaries)?;
+    let transfer = transfer_label(s.edition, s.transfer)?;
     let rows = [
         (1, matrix == Matrix::Reserved),
         (2, matrix == Matrix::Unspecified),
         (3, matrix == Matrix::NotServed),
-        (4, primaries_label(s.primaries) == Label::Reserved),
-        (5, transfer_label(s.transfer) == Label::Reserved),
+        (4, primaries == Label::Reserved),
+        (5, transfer == Label::Reserved),
         (6, depth_not_served(s)),
         (7, !depths_and_flags_agree(s)),
     ];
@@ -40,11 +49,7 @@ pub fn setting_refusal(s: &Setting) -> Result<(), Refusal> {
 }
 
 fn depth_not_served(s: &Setting) -> bool {
-    let deepest = if luma_weights(s.matrix).is_some() {
-        12
-    } else {
-        16
-    };
+    let deepest = if luma_weights(s).is_some() { 12 } else { 16 };
     [s.rgb_depth, s.y_depth, s.c_depth]
         .iter()
         .any(|&depth| depth < 8 || depth > deepest)
@@ -55,7 +60,7 @@ fn depths_and_flags_agree(s: &Setting) -> bool {
     let y = i32::from(s.y_depth);
     let c = i32::from(s.c_depth);
     let same_flags = s.rgb_full == s.ycc_full;
-    match matrix_of(s.matrix) {
+    match matrix_in(s) {
         Matrix::Identity => rgb == y && y == c && same_flags,
         Matrix::YCgCo => rgb == y && (c == y || c == y + 1) && same_flags,
         Matrix::YCgCoRe => y == c && y == rgb + 2 && same_flags,
@@ -73,7 +78,7 @@ pub fn require_lossless(s: &Setting) -> Result<(), Refusal> {
 }
 
 pub fn require_luma_matrix(s: &Setting) -> Result<(), Refusal> {
-    match luma_weights(s.matrix) {
+    match luma_weights(s) {
         Some(_) => Ok(()),
         None => Err(Refusal::Number(11)),
     }

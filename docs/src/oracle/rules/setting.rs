@@ -1,5 +1,6 @@
 //! A setting, and what its matrix and its depths say.
 
+use super::edition::edition_of;
 use super::matrix::{matrix_of, Matrix};
 
 /// Three samples of one place: R, G, B on one side and Y, Cb, Cr on the other.
@@ -7,6 +8,8 @@ pub type Pixel = [u16; 3];
 
 #[derive(Clone, Copy, Debug, PartialEq, Eq)]
 pub struct Setting {
+    /// The number of an edition, or any other.
+    pub edition: u8,
     pub primaries: u8,
     pub transfer: u8,
     pub matrix: u8,
@@ -24,9 +27,24 @@ pub enum Way {
     Reverse,
 }
 
+/// What the matrix code means in the setting's edition. Asked only of settings
+/// that have one.
+pub fn matrix_in(s: &Setting) -> Matrix {
+    let edition = edition_of(s.edition).expect("one of the three editions");
+    matrix_of(edition, s.matrix)
+}
+
+/// KR and KB in ten-thousandths, for a luma matrix only.
+pub fn luma_weights(s: &Setting) -> Option<(i128, i128)> {
+    match matrix_in(s) {
+        Matrix::Luma(kr, kb) => Some((kr, kb)),
+        _ => None,
+    }
+}
+
 /// Asked of accepted settings only.
 pub fn is_lossless(s: &Setting) -> bool {
-    match matrix_of(s.matrix) {
+    match matrix_in(s) {
         Matrix::Identity | Matrix::YCgCoRe | Matrix::YCgCoRo => true,
         Matrix::YCgCo => i32::from(s.c_depth) == i32::from(s.y_depth) + 1,
         _ => false,

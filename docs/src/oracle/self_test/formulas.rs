@@ -3,25 +3,48 @@
 
 use super::{Checked, Test};
 use crate::fraction::Fraction;
+use crate::kinds::{
+    kinds_by_loss, Kind, IDENTITY, LUMA_KINDS, PUBLISHED, YCGCO_R, YCGCO_RE, YCGCO_RO,
+};
 use crate::random::Random;
 use crate::rules::{
     converted, has_source, levels_forward, levels_reverse, output_depths, source_depths, Pixel,
     Setting, Way,
 };
-use crate::settings::{self, KINDS, LUMA_CODES};
+use crate::settings;
 
-/// The four lossless forms at an RGB depth, which need not be a served one.
-fn lossless_forms(depth: u8) -> [Setting; 4] {
-    [(0, 0, 0), (8, 0, 1), (16, 2, 2), (17, 1, 1)].map(|(matrix, more_y, more_c)| Setting {
+/// A lossless kind at an RGB depth, which need not be a served one.
+fn lossless_form(edition: u8, kind: Kind, depth: u8) -> Setting {
+    let forms = [
+        (IDENTITY, 0, 0),
+        (YCGCO_R, 0, 1),
+        (YCGCO_RE, 2, 2),
+        (YCGCO_RO, 1, 1),
+    ];
+    let form = forms.iter().find(|form| form.0 == kind);
+    let (_, more_y, more_c) = form.expect("a lossless kind");
+    Setting {
+        edition,
         primaries: 1,
         transfer: 1,
-        matrix,
+        matrix: kind.code_in(edition).expect("an edition with the kind"),
         rgb_depth: depth,
         y_depth: depth + more_y,
         c_depth: depth + more_c,
         rgb_full: true,
         ycc_full: true,
-    })
+    }
+}
+
+/// Every lossless kind in every edition that has it.
+fn lossless_forms(depth: u8) -> Vec<Setting> {
+    let mut forms = Vec::new();
+    for kind in kinds_by_loss(true) {
+        for edition in kind.editions() {
+            forms.push(lossless_form(edition, kind, depth));
+        }
+    }
+    forms
 }
 
 /// Calls `visit` with every pixel within the depths.
@@ -95,9 +118,8 @@ impl Test {
     }
 
     pub fn all_eight_bit_sources(&mut self) -> Checked {
-        let [identity, ycgco_r, _, _] = lossless_forms(8);
-        self.sources_of(&identity)?;
-        self.sources_of(&ycgco_r)
+        self.sources_of(&lossless_form(PUBLISHED, IDENTITY, 8))?;
+        self.sources_of(&lossless_form(PUBLISHED, YCGCO_R, 8))
     }
 
     fn round_trip(&mut self, s: &Setting, rgb: Pixel) -> Checked {
@@ -123,9 +145,10 @@ impl Test {
             for_every_pixel([6, 6, 6], |n| self.round_trip(&s, n.map(|v| v * 4 + v % 4)))?;
         }
         let mut random = Random::new(8);
-        for kind in KINDS.iter().filter(|kind| kind.1) {
-            for s in settings::accepted(*kind) {
+        for kind in kinds_by_loss(true) {
+            for mut s in settings::accepted(kind) {
                 for _ in 0..2000 {
+                    settings::vary(&mut random, &mut s);
                     let rgb = [0; 3].map(|_| random.sample(s.rgb_depth));
                     self.round_trip(&s, rgb)?;
                 }
@@ -138,16 +161,17 @@ impl Test {
     /// were solved from.
     pub fn solved_levels(&mut self) -> Checked {
         let mut random = Random::new(42);
-        for matrix in LUMA_CODES {
+        for kind in LUMA_KINDS {
+            let s = settings::accepted(kind)[0];
             for _ in 0..500 {
                 let bottom = 1 + random.below(4095) as i128;
                 let levels =
                     [0; 3].map(|_| Fraction::new(random.below(8192) as i128 - 4096, bottom));
-                let what = || format!("levels {:?} of matrix {}", levels, matrix);
-                let solved = levels_reverse(matrix, levels);
-                self.equal(&what, levels_forward(matrix, solved), levels)?;
-                let there = levels_forward(matrix, levels);
-                self.equal(&what, levels_reverse(matrix, there), levels)?;
+                let what = || format!("levels {:?} of matrix {}", levels, s.matrix);
+                let solved = levels_reverse(&s, levels);
+                self.equal(&what, levels_forward(&s, solved), levels)?;
+                let there = levels_forward(&s, levels);
+                self.equal(&what, levels_reverse(&s, there), levels)?;
             }
         }
         Ok(())
@@ -156,8 +180,8 @@ impl Test {
     /// Equal R, G and B on equal depths and ranges are Y itself with chroma in
     /// the middle, both ways, since the three weights add up to one.
     pub fn greys(&mut self) -> Checked {
-        for kind in KINDS.iter().filter(|kind| LUMA_CODES.contains(&kind.0)) {
-            for s in settings::accepted(*kind) {
+        for kind in LUMA_KINDS {
+            for s in settings::accepted(kind) {
                 if s.rgb_depth != s.y_depth || s.rgb_full != s.ycc_full {
                     continue;
                 }

@@ -10,10 +10,10 @@ use crate::words::Words;
 
 /// How many bytes of cases the proved programs take: `room` in
 /// crates/case_lines/src/lib.rt. They would not see what goes beyond.
-const ROOM: usize = 1_000_000;
+const ROOM: usize = 1_200_000;
 
 /// How the first lines of frame answers start; the place of 10 by its plane.
-const FRAME_ANSWERS: [&str; 16] = [
+const FRAME_ANSWERS: [&str; 17] = [
     "done",
     "yes",
     "none row 0",
@@ -30,54 +30,58 @@ const FRAME_ANSWERS: [&str; 16] = [
     "refused 10 plane 0",
     "refused 10 plane 2",
     "refused 11",
+    "refused 12",
 ];
 
 impl Test {
-    /// The pixel cases are about as many as wanted, and hold enough exact
-    /// halves of every sort.
-    pub fn pixel_texts(&mut self) -> Checked {
+    pub fn texts(&mut self) -> Checked {
         for seed in [0, 1, 2] {
-            let cases = pixel_cases(seed);
-            let mut found = Halves::default();
-            for line in cases.lines() {
-                found.count(line)?;
-            }
-            let what = || format!("exact halves of seed {}: {:?}", seed, found);
-            self.holds(&what, found.ycgco_above >= 50 && found.ycgco_below >= 50)?;
-            self.holds(&what, found.luma_above >= 50 && found.luma_below >= 50)?;
-            self.holds(&what, found.narrow_below >= 4)?;
-            let lines = cases.lines().count();
-            let what = || format!("pixel cases of seed {}: {} lines", seed, lines);
-            self.holds(
-                &what,
-                (6000..=9000).contains(&lines) && cases.len() < 450_000,
-            )?;
+            let pixels = pixel_cases(seed);
+            let frames = frame_cases(seed);
+            self.pixel_text(seed, &pixels)?;
+            self.frame_text(seed, &frames)?;
+            self.editions_of_text(seed, &(pixels + &frames))?;
         }
         Ok(())
     }
 
+    /// The pixel cases are about as many as wanted, and hold enough exact
+    /// halves of every sort.
+    fn pixel_text(&mut self, seed: u64, cases: &str) -> Checked {
+        let mut found = Halves::default();
+        for line in cases.lines() {
+            found.count(line)?;
+        }
+        let what = || format!("exact halves of seed {}: {:?}", seed, found);
+        self.holds(&what, found.ycgco_above >= 50 && found.ycgco_below >= 50)?;
+        self.holds(&what, found.luma_above >= 50 && found.luma_below >= 50)?;
+        self.holds(&what, found.narrow_below >= 4)?;
+        let lines = cases.lines().count();
+        let what = || format!("pixel cases of seed {}: {} lines", seed, lines);
+        self.holds(
+            &what,
+            (12_000..=15_000).contains(&lines) && cases.len() < 450_000,
+        )
+    }
+
     /// The frame cases are as many and as short as wanted, every answer is
     /// among theirs, and old contents of the output don't matter.
-    pub fn frame_texts(&mut self) -> Checked {
-        for seed in [0, 1, 2] {
-            let cases = frame_cases(seed);
-            let answers = answer_text(&cases)?;
-            let what = || format!("size of the frame cases of seed {}", seed);
-            self.holds(&what, cases.lines().count() >= 2000)?;
-            self.holds(&what, cases.len() <= ROOM)?;
-            self.holds(&what, cases.len() + answers.len() < 2 * ROOM)?;
-            self.holds(&what, cases.lines().all(|line| line.len() < 200_000))?;
-            for start in FRAME_ANSWERS {
-                let what = || format!("'{}' among the answers of seed {}", start, seed);
-                let longer = format!("{} ", start);
-                let fits = |line: &&str| *line == start || line.starts_with(&longer);
-                self.holds(&what, answers.lines().filter(fits).count() >= 20)?;
-            }
-            let refilled: String = cases.lines().map(refilled).collect();
-            let what = || format!("old contents in the frame cases of seed {}", seed);
-            self.equal(&what, answer_text(&refilled)?, answers)?;
+    fn frame_text(&mut self, seed: u64, cases: &str) -> Checked {
+        let answers = answer_text(cases)?;
+        let what = || format!("size of the frame cases of seed {}", seed);
+        self.holds(&what, cases.lines().count() >= 2000)?;
+        self.holds(&what, cases.len() <= ROOM)?;
+        self.holds(&what, cases.len() + answers.len() < 2 * ROOM)?;
+        self.holds(&what, cases.lines().all(|line| line.len() < 200_000))?;
+        for start in FRAME_ANSWERS {
+            let what = || format!("'{}' among the answers of seed {}", start, seed);
+            let longer = format!("{} ", start);
+            let fits = |line: &&str| *line == start || line.starts_with(&longer);
+            self.holds(&what, answers.lines().filter(fits).count() >= 20)?;
         }
-        Ok(())
+        let refilled: String = cases.lines().map(refilled).collect();
+        let what = || format!("old contents in the frame cases of seed {}", seed);
+        self.equal(&what, answer_text(&refilled)?, answers)
     }
 }
 

@@ -1,4 +1,4 @@
--- The exported matrix label is the number of the label.
+-- The exported matrix label is the number of the label, or of the refusal.
 use borrow.Author.Needs.{needs}
 use Rattle.corkplover.proofs.exports.corkplover_matrix_label.Statement.{statement}
 use Rattle.corkplover.proofs.exports.corkplover_matrix_label.Tie as tie

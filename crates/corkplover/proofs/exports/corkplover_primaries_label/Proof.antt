@@ -1,4 +1,4 @@
--- The exported primaries label is the number of the label.
+-- The exported primaries label is the number of the label, or of the refusal.
 use borrow.Author.Needs.{needs}
 use Rattle.corkplover.proofs.exports.corkplover_primaries_label.Statement.{statement}
 use Rattle.corkplover.proofs.exports.corkplover_primaries_label.Tie as tie

@@ -12,4 +12,4 @@ pub setting-in-spec : {M : Type 1} → statement M
 setting-in-spec =
     tie.close
     (tie.spec (λ c. search needs) (λ c. search needs) (λ c. search needs) (λ c. search needs) (λ c. search needs)
-    (λ c. search needs) returns)
+    (λ c. search needs) (λ c. search needs) returns)

@@ -1,7 +1,5 @@
 -- `request::ask::ask` meets its contract: one arm for each kind of request.
-use mathlib.Core.Path.{ap}
 use Rattle.request.specs.Answers.{answerTo}
-use Rattle.request.specs.declared.ask.Answer.the-variants.{Label}
 use borrow.Author.Needs.{needs}
 use Rattle.request.proofs.ask.ask.Statement.{statement}
 use Rattle.request.proofs.ask.ask.Tie as tie
@@ -16,7 +14,7 @@ returns-2 c = rw (c .before .before .request2 .given .1) (c .ask-sample .ensures
 
 returns-3 : tie.Need-returns-3
 unfolding answerTo
-returns-3 c = rw (c .before .before .request3 .given .1) (ap Label (c .label-of .ensures))
+returns-3 c = rw (c .before .before .request3 .given .1) (c .ask-label .ensures)
 
 pub ask-spec : {M : Type 1} → statement M
 ask-spec =

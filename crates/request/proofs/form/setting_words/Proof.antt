@@ -5,8 +5,8 @@ use borrow.Author.Needs.{needs}
 use Rattle.request.proofs.form.setting_words.Statement.{statement}
 use Rattle.request.proofs.form.setting_words.Tie as tie
 
-cast-t13 : tie.Need-cast-t13
-cast-t13 c = omega (arith, c .before .before .before .before .before .before .before .before .number-word .ensures .1)
+cast-t14 : tie.Need-cast-t14
+cast-t14 c = omega (arith, c .before .before .before .before .before .before .before .before .number-word .ensures .1)
 
 returns : tie.Need-returns
 unfolding settingWords
@@ -27,5 +27,5 @@ pub setting-words-spec : {M : Type 1} → statement M
 setting-words-spec =
     tie.close
     (tie.spec (λ c κs. search needs) (λ c κs. search needs) (λ c κs. search needs) (λ c κs. search needs)
-    (λ c κs. search needs) (λ c κs. search needs) (λ c κs. search needs) (λ c κs. search needs) cast-t13 (λ c. search needs)
+    (λ c κs. search needs) (λ c κs. search needs) (λ c κs. search needs) (λ c κs. search needs) cast-t14 (λ c. search needs)
     (λ c. search needs) (λ c. search needs) (λ c. search needs) (λ c. search needs) returns)

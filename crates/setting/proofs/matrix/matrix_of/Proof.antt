@@ -1,16 +1,21 @@
 -- `setting::matrix::matrix_of` meets its contract: an arm for one code is that code's entry of the table, and an arm for a range is what the
--- table has at every code that the match has left for it.
+-- table has at every code that the match has left for it. Past 14 the edition decides.
 use mathlib.Core.Path.{_≡_, refl, ap}
-use Prim.Native.Nat.{_<_}
+use mathlib.Core.List.{_++_}
+use Prim.Native.Nat.{_≤_, _<_}
 use native.Mathlib.Omega.{arith}
 use borrow.Author.Needs.{needs}
 use borrow.Author.Tests.{eqb-true}
 use lib.Dec.{eqb}
-use Rattle.setting.specs.Matrix.{matrixOf}
+use lib.ListN.{length}
+use Rattle.setting.specs.Matrix.{common, added, matrixOf}
 use Rattle.setting.specs.Rules.{standing}
+use Rattle.setting.specs.declared.edition.Edition.{Edition}
+use Rattle.setting.specs.declared.edition.Edition.the-variants.{Of2021, Draft, Published}
 use Rattle.setting.specs.declared.matrix.Matrix.{Matrix}
 use Rattle.setting.specs.declared.matrix.Matrix.the-variants as matrix
 use Rattle.setting.proofs.Codes.{none, from, below, passed, by-clues, by-test}
+use Rattle.setting.proofs.Table.{past-end}
 use Rattle.setting.proofs.matrix.matrix_of.Statement.{statement}
 use Rattle.setting.proofs.matrix.matrix_of.Tie as tie
 
@@ -20,12 +25,6 @@ unserved (matrix.Served e) q = absurd (omega arith)
 unserved matrix.Reserved q = absurd (omega arith)
 unserved matrix.Unspecified q = absurd (omega arith)
 unserved matrix.Unserved q = refl
-
-reserved : (m : Matrix) → standing m ≡ 1 → matrix.Reserved ≡ m
-reserved (matrix.Served e) q = absurd (omega arith)
-reserved matrix.Reserved q = refl
-reserved matrix.Unspecified q = absurd (omega arith)
-reserved matrix.Unserved q = absurd (omega arith)
 
 returns : tie.Need-returns
 unfolding matrixOf
@@ -53,46 +52,42 @@ returns-6 c = rw (c .ycgco .ensures, c .before .match .keys6)
 
 returns-7 : tie.Need-returns-7
 unfolding matrixOf
-returns-7 c = rw (c .ycgco2 .ensures, c .before .match .keys7)
+returns-7 c = rw (c .match .keys7)
 
 returns-8 : tie.Need-returns-8
 unfolding matrixOf
-returns-8 c = rw (c .ycgco3 .ensures, c .before .match .keys8)
+returns-8 c =
+    let a = c .before .before .before .args in
+    let small : a .code < 256 = omega arith in
+    let each = ap matrix.Served (c .luma5 .ensures) in
+    by-clues (λ m. matrix.Served (c .luma5 .result) ≡ matrixOf (a .edition) m) (below (passed (passed (passed (passed (passed (passed (passed (passed (λ _. none)))))))) (c .before .before .match .rest)) (c .before .if1 .taken)) small (each, (each, tt))
 
 returns-9 : tie.Need-returns-9
 unfolding matrixOf
-returns-9 c = rw (c .match .keys9)
+returns-9 c =
+    let a = c .before .before .before .args in
+    let small : a .code < 256 = omega arith in
+    unserved (matrixOf (a .edition) (a .code)) (eqb-true _ _ (by-test (λ m. eqb (standing (matrixOf (a .edition) m)) 3) (below (from (passed (passed (passed (passed (passed (passed (passed (passed (λ _. none)))))))) (c .before .before .match .rest)) (c .before .if1 .left)) (c .if2 .taken)) small refl))
 
 returns-10 : tie.Need-returns-10
-unfolding matrixOf
-returns-10 c =
-    let n = c .before .before .before .args .code in
-    let small : n < 256 = omega arith in
-    let each = ap matrix.Served (c .luma5 .ensures) in
-    by-clues (λ m. matrix.Served (c .luma5 .result) ≡ matrixOf m) (below (passed (passed (passed (passed (passed (passed (passed (passed (passed (passed (λ _. none)))))))))) (c .before .before .match .rest)) (c .before .if1 .taken)) small (each, (each, tt))
+returns-10 c = c .added .ensures
 
 returns-11 : tie.Need-returns-11
 unfolding matrixOf
-returns-11 c =
-    let n = c .before .before .before .args .code in
-    let small : n < 256 = omega arith in
-    unserved (matrixOf n) (eqb-true _ _ (by-test (λ m. eqb (standing (matrixOf m)) 3) (below (from (passed (passed (passed (passed (passed (passed (passed (passed (passed (passed (λ _. none)))))))))) (c .before .before .match .rest)) (c .before .if1 .left)) (c .if2 .taken)) small refl))
+returns-11 c = rw (c .match .keys8)
+
+-- no edition has more than three codes of its own
+own : (e : Edition) → length (common ++ added e) ≤ 18
+own Of2021 = omega arith
+own Draft = omega arith
+own Published = omega arith
 
 returns-12 : tie.Need-returns-12
-unfolding matrixOf
-returns-12 c = rw (c .match .keys10)
-
-returns-13 : tie.Need-returns-13
-unfolding matrixOf
-returns-13 c =
-    let n = c .before .before .before .args .code in
-    let small : n < 256 = omega arith in
-    reserved (matrixOf n) (eqb-true _ _ (by-test (λ m. eqb (standing (matrixOf m)) 1) (from (passed (passed (passed (passed (passed (passed (passed (passed (passed (passed (λ _. none)))))))))) (c .before .before .match .rest)) (c .if2 .left)) small refl))
+returns-12 c = let a = c .before .before .before .before .args in past-end (a .edition) (a .code) (omega (arith, own (a .edition), c .if3 .left))
 
 pub matrix-of-spec : {M : Type 1} → statement M
 matrix-of-spec =
     tie.close
     (tie.spec (λ c κs. search needs) (λ c κs. search needs) (λ c κs. search needs) (λ c κs. search needs)
-    (λ c κs. search needs) (λ c κs. search needs) (λ c κs. search needs) (λ c κs. search needs) (λ c κs. search needs) returns
-    returns-2 returns-3 returns-4 returns-5 returns-6 returns-7 returns-8 returns-9 returns-10 returns-11 returns-12
-    returns-13)
+    (λ c κs. search needs) (λ c κs. search needs) (λ c κs. search needs) (λ c κs. search needs) returns
+    returns-2 returns-3 returns-4 returns-5 returns-6 returns-7 returns-8 returns-9 returns-10 returns-11 returns-12)
