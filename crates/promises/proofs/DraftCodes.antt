@@ -1,7 +1,7 @@
 -- The draft's codes of YCgCo-Re and YCgCo-Ro in the published edition, whatever is asked: 15 is refused with 3, and what the draft takes as 16 with
 -- 7, since 16 asks for one bit more there.
-use mathlib.Core.Path.{_≡_, refl, sym, ap, subst, _∙_}
-use mathlib.Core.Bool.{true, false, not, _&&_}
+use mathlib.Core.Path.{_≡_, sym, ap, _∙_}
+use mathlib.Core.Bool.{true, false, not}
 use mathlib.Core.List.{List, [], _∷_}
 use Prim.Native.Nat.{ℕ, _+_}
 use native.Mathlib.Omega.{arith}
@@ -20,7 +20,6 @@ use Rattle.setting.specs.Matrix.{ycgcoRe, ycgcoRo, matrixOf}
 use Rattle.setting.specs.Rules.{depths, editionRule, matrixBy, matrixRules, settingRules}
 use Rattle.setting.specs.declared.Call.{Call}
 use Rattle.setting.specs.declared.Setting.{Setting}
-use Rattle.setting.specs.declared.matrix.Matrix.the-variants.{Served}
 use Rattle.scan.specs.First.{badRule}
 use Rattle.scan.specs.declared.Bad.{Bad}
 use Rattle.admit.specs.Rules.{callRules}

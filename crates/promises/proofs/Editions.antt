@@ -1,7 +1,7 @@
 -- One call on the same codes, depths and flags in two editions: if neither refuses, both are served alike and so give the same. Which of the two is
 -- the older plays no part.
 use mathlib.Core.Path.{_≡_, sym, ap, _∙_}
-use mathlib.Core.List.{List, [], _∷_}
+use mathlib.Core.List.{List, []}
 use mathlib.Core.Logic.{_⊎_, inl, inr, ⊎-elim}
 use Prim.Native.Nat.{ℕ}
 use native.Mathlib.Decide.{ℕ-discrete}

@@ -1,5 +1,4 @@
 -- Every entry point in two editions: the same arguments but for the edition's number, answered the same or refused.
-use mathlib.Core.Path.{_≡_}
 use mathlib.Core.List.{List}
 use denote.Ref.{now}
 use Prim.Native.Nat.{ℕ}

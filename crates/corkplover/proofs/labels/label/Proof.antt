@@ -1,7 +1,7 @@
 -- `corkplover::labels::label` meets its contract: the edition decides whether there is one.
-use mathlib.Core.Path.{_≡_, sym, ap, _∙_}
+use mathlib.Core.Path.{ap}
 use borrow.Author.Needs.{needs}
-use Rattle.corkplover.specs.Answers.{labelBy, labelAnswer}
+use Rattle.corkplover.specs.Answers.{labelAnswer}
 use Rattle.corkplover.specs.declared.labels.LabelAnswer.the-variants.{Labelled, Refused}
 use Rattle.corkplover.proofs.labels.label.Statement.{statement}
 use Rattle.corkplover.proofs.labels.label.Tie as tie
