@@ -36,7 +36,7 @@ pub fn pixel(plan: Plan, p: Pixel) -> Pixel
     }
 }
 
-fn is_same(p: Pixel, q: Pixel) -> bool
+pub fn is_same(p: Pixel, q: Pixel) -> bool
     ensures { λ r. ⌜ r ≡ samePixel p q ⌝ }
 {
     if p.p0 == q.p0 {

@@ -1,7 +1,7 @@
 -- The answer and the output planes of a conversion, by whether it is let in: by its setting and its sizes first, and then by its samples, which are
 -- tested while it is painted.
 use mathlib.Core.Path.{_≡_, sym, ap, _∙_, subst}
-use mathlib.Core.Bool.{Bool, true}
+use mathlib.Core.Bool.{Bool}
 use mathlib.Core.List.{List, [], _∷_}
 use Prim.Native.Nat.{ℕ}
 use Rattle.sample.specs.Depth.{InsideOf, tops}
@@ -15,7 +15,7 @@ use Rattle.setting.specs.declared.Way.{Way}
 use Rattle.setting.specs.declared.admission.Admission.{Admission}
 use Rattle.setting.specs.declared.admission.Admission.the-variants as admission
 use Rattle.setting.specs.declared.admission.Served.{Served}
-use Rattle.scan.specs.First.{NotAbove}
+use Rattle.scan.specs.First.{NotAbove, Tells}
 use Rattle.planes.specs.Picture.{Picture, layoutOf, sampleOf, pixelOf, EveryPixel}
 use Rattle.planes.specs.Plane.{zeros}
 use Rattle.planes.specs.Sizes.{sizeRules, Fits}
@@ -44,6 +44,10 @@ module _ (way : Way) (x : Served) {plan : RowPlan} (h : RowPlans (convert way x)
   pub takes-up-to : TakesUpTo top plan
   takes-up-to = record { each = λ p n. h .takes p (within p n) }
 
+  -- so a test of every pixel against the tops tells whether all lie within depth
+  pub tells-inside : (a : Picture) (r : Bool) → Tells r (EveryPixel (NotAbove top) a) → Tells r (EveryPixel (InsideOf (inputOf way) (x .depths)) a)
+  tells-inside a r t = (λ e j i p q. within _ (t .0 e j i p q), λ e h. t .1 e (λ j i p q. not-above _ (h j i p q)))
+
   module _ (a : Picture) (b : Layout) where
     mapped : EveryPixel (InsideOf (inputOf way) (x .depths)) a → (k : ℕ) {q : List ℕ} → q ≡ mappedPlane k (rowPlanned plan) a (b .stride) (lengthOf k b)
         → q ≡ mappedPlane k (convert way x) a (b .stride) (lengthOf k b)
@@ -51,9 +55,9 @@ module _ (way : Way) (x : Served) {plan : RowPlan} (h : RowPlans (convert way x)
 
     pub converted-if : (r : Bool) {q0 q1 q2 : List ℕ} → PaintedIf r top (rowPlanned plan) a b q0 q1 q2 → ConvertedIf r way x a b q0 q1 q2
     converted-if r t =
-        let inside : r ≡ true → EveryPixel (InsideOf (inputOf way) (x .depths)) a = λ e j i p q. within _ (t .0 .0 e j i p q) in (
-          (inside, λ e i. t .0 .1 e (λ j k p q. not-above _ (i j k p q))),
-          λ e. let m = t .1 e in (mapped (inside e) 0 (m .0), (mapped (inside e) 1 (m .1 .0), mapped (inside e) 2 (m .1 .1))),
+        let inside = tells-inside a r (t .0) in (
+          inside,
+          λ e. let m = t .1 e in (mapped (inside .0 e) 0 (m .0), (mapped (inside .0 e) 1 (m .1 .0), mapped (inside .0 e) 2 (m .1 .1))),
         )
 
 -- ---- the call
@@ -100,21 +104,28 @@ module _ {way : Way} {s : Setting} {a : Picture} {b : Layout} {x : Served} (l : 
   abbrev pub Inside : Type 0
   Inside = EveryPixel (InsideOf (inputOf way) (x .depths)) a
 
-  -- with all samples within depth it is accepted
-  pub painted-all : Inside → {q0 q1 q2 : List ℕ} → MappedPlanes (convert way x) a b q0 q1 q2 → FrameAfter way s a b Done q0 q1 q2
-  painted-all inside m =
+  -- with all samples within depth it is let in, and with one that is not it is not
+  pub let-in : Inside → frameAdmission way s a b ≡ admission.Admitted x
+  let-in inside =
       let same = is-served (Convert way) s _ x (l .is-sized) in
       let own = subst (λ (y : Served). EveryPixel (InsideOf (inputOf way) (y .depths)) a) (sym same) inside in
-      let e = ap (callAdmission (Convert way) s _) (inside-exactly (inputOf way) _ a .1 own) ∙ l .is-sized in (
+      ap (callAdmission (Convert way) s _) (inside-exactly (inputOf way) _ a .1 own) ∙ l .is-sized
+
+  pub not-let-in : (Inside → ⊥) → (y : Served) → frameAdmission way s a b ≡ admission.Admitted y → ⊥
+  not-let-in none y e =
+      let k = accepted-of (Convert way) s _ _ y e in
+      let same = is-served (Convert way) s _ x (l .is-sized) in
+      none (subst (λ (y : Served). EveryPixel (InsideOf (inputOf way) (y .depths)) a) same (pixels-inside (Convert way) s a (b ∷ []) (k .0)))
+
+  pub painted-all : Inside → {q0 q1 q2 : List ℕ} → MappedPlanes (convert way x) a b q0 q1 q2 → FrameAfter way s a b Done q0 q1 q2
+  painted-all inside m =
+      let e = let-in inside in (
         sym (done way s a b x e),
         (m .0 ∙ sym (plane-done way s a b x e 0), (m .1 .0 ∙ sym (plane-done way s a b x e 1), m .1 .1 ∙ sym (plane-done way s a b x e 2))),
       )
 
-  -- and with one that is not it is refused, whatever its answer says
+  -- what is not let in is refused, whatever its answer says
   pub turned-away : (Inside → ⊥) → (v : Admission) → v ≡ frameAdmission way s a b → {q0 q1 q2 : List ℕ}
       → (q0 ≡ zeros (b .n0)) × ((q1 ≡ zeros (b .n1)) × (q2 ≡ zeros (b .n2))) → FrameAfter way s a b (frameBy v) q0 q1 q2
-  turned-away none (admission.Admitted y) e z =
-      let k = accepted-of (Convert way) s _ _ y (sym e) in
-      let same = is-served (Convert way) s _ x (l .is-sized) in
-      absurd (none (subst (λ (y : Served). EveryPixel (InsideOf (inputOf way) (y .depths)) a) same (pixels-inside (Convert way) s a (b ∷ []) (k .0))))
+  turned-away none (admission.Admitted y) e z = absurd (not-let-in none y (sym e))
   turned-away none (admission.Refused r) e z = zeroed way s a b r (sym e) z

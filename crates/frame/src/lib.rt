@@ -1,5 +1,5 @@
 // Whole frames: the refusals first, and then either every row or zeros everywhere.
-mod paint;
+pub mod paint;
 
 ghost use mathlib.Core.Path.{_≡_};
 ghost use lib.ListN.{length};

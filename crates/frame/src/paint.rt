@@ -21,7 +21,7 @@ fn row_fine(tops: Pixel, from: usize, n: usize, a0: &[u16], a1: &[u16], a2: &[u1
 }
 
 // One row, from index `from` of the planes that are read to index `to` of those that are written.
-fn paint_row(
+pub fn paint_row(
     plan: RowPlan,
     tops: Pixel,
     width: usize,

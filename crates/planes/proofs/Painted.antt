@@ -18,10 +18,10 @@ use Rattle.planes.proofs.Tables.{length-tab, tab-same, patched-length, 
 
 -- row j and column i of the element j · stride + i
 module _ (stride j i : ℕ) (l : i < stride) where
-  row-of : (j * stride + i) / stride ≡ j
+  pub row-of : (j * stride + i) / stride ≡ j
   row-of = let p : 0 < stride = omega arith in rw (mul-add-div-right p j i, div-eq-of-lt l) (add-zero j)
 
-  column-of : (j * stride + i) % stride ≡ i
+  pub column-of : (j * stride + i) % stride ≡ i
   column-of = rw (mul-add-mod-self-right j stride i) (mod-eq-of-lt l)
 
 -- the three kinds of element: in the picture, right of it, and below it
