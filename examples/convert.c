@@ -1,5 +1,5 @@
-/* Converts a small picture to luma and chroma and back, asks the image check and the spot meter, reads an old label, and meets a few
- * refusals. `tools/run-example` builds and runs it. */
+/* Converts a small picture to luma and chroma and back, asks the image check and the spot meter, judges another converter's frame, reads an
+ * old label, and meets a few refusals. `tools/run-example` builds and runs it. */
 #include "corkplover.h"
 
 #include <stdio.h>
@@ -87,6 +87,20 @@ static void image_check(void)
            cork_column(answer));
 }
 
+/* Another converter's frame: the same as ours, but for a white that is too bright and two errors in the brown. */
+static void judgement(void)
+{
+    cork_source rgb = cork_source_of(R, G, B, LENGTH, STRIDE);
+    cork_output claimed = cork_output_of(y, cb, cr, LENGTH, STRIDE);
+    cork_forward_frame(HD, WIDTH, HEIGHT, rgb, claimed);
+    y[0 * STRIDE + 3] += 1;
+    cb[1 * STRIDE + 3] += 1;
+    cr[1 * STRIDE + 3] -= 1;
+    cork_judgement found = cork_judge_forward(HD, WIDTH, HEIGHT, rgb, cork_read_back(claimed));
+    printf("another converter's frame agrees: %s, first wrong at row %u, column %u, wrong pixels: %u\n",
+           cork_agrees(found.answer) ? "yes" : "no", cork_row(found.answer), cork_column(found.answer), (unsigned)found.wrong);
+}
+
 static void meter(void)
 {
     cork_answer pixel = cork_forward_pixel(HD, 255, 0, 0);
@@ -122,6 +136,7 @@ int main(void)
 {
     there_and_back();
     image_check();
+    judgement();
     meter();
     old_label();
     bad_sample();

@@ -10,8 +10,9 @@
  *   1. A plane's pointer and length tell the truth: that many elements may be read there, or written in an output plane. With
  *      length 0 the pointer still has to point somewhere: not null.
  *   2. A plane starts at an address that is aligned for uint16_t.
- *   3. An output plane overlaps no other plane of the call. Source planes may be one and the same.
- *   4. Nobody else writes to a source plane, or reads or writes an output plane, while a call runs.
+ *   3. An output plane overlaps no other plane of the call. Planes that are only read may be one and the same: sources, and the
+ *      claimed planes of a judgement.
+ *   4. Nobody else writes to a plane that is only read, or reads or writes an output plane, while a call runs.
  *   5. A bool holds 0 or 1. It always does, unless its byte was written as something other than a bool.
  *   6. For the meter: the processor rounds floats to nearest, as every program starts out.
  *
@@ -76,7 +77,7 @@ typedef struct cork_setting {
  *
  * Three planes of one size that share a stride, the distance from one row's first element to the next row's. Plane 0, 1, 2 is
  * R, G, B on one side and Y, Cb, Cr on the other. length counts elements, not bytes. The element of a row and column is
- * plane[k][row * stride + column]; every other element is padding. Padding is never looked at in a source.
+ * plane[k][row * stride + column]; every other element is padding. Padding is never looked at in a picture that is only read.
  */
 typedef struct cork_source {
     const uint16_t *plane[3];
@@ -137,7 +138,7 @@ typedef enum cork_refusal {
     CORK_DEPTH_NOT_SERVED = 6,      /* a depth is outside 8 to 16, or outside 8 to 12 with a luma matrix */
     CORK_DEPTHS_DISAGREE = 7,       /* the depths or the flags are not as the matrix asks */
     CORK_SIZE_NOT_SERVED = 8,       /* a side outside 1 to 8192, or a stride less than the width or more than 16384 */
-    CORK_PLANE_TOO_SHORT = 9,       /* a plane is shorter than cork_needed_length */
+    CORK_PLANE_TOO_SHORT = 9,       /* a plane of either side is shorter than cork_needed_length */
     CORK_SAMPLE_TOO_LARGE = 10,     /* a source sample has more bits than its depth; the answer says where, and which number it is */
     CORK_NOT_FOR_THIS_SETTING = 11, /* the meter without a luma matrix, or the image check without a lossless setting */
     CORK_EDITION_UNKNOWN = 12       /* the edition is 0 or above 3 */
@@ -196,14 +197,21 @@ static inline bool cork_has_source(cork_answer answer)
     return (answer.packed >> 8 & 0xff) == 0;
 }
 
-/* The plane of the first sample that is too large: the lowest plane that has one. Of CORK_SAMPLE_TOO_LARGE. */
+/* Whether every claimed pixel is the box's own. Of an accepted judgement. */
+static inline bool cork_agrees(cork_answer answer)
+{
+    return (answer.packed >> 8 & 0xff) == 0;
+}
+
+/* The plane of the first source sample that is too large: the lowest plane that has one. Of CORK_SAMPLE_TOO_LARGE. */
 static inline unsigned cork_plane(cork_answer answer)
 {
     return (unsigned)(answer.packed >> 8 & 0xff);
 }
 
 /* Row and column, counted from 0. Of CORK_SAMPLE_TOO_LARGE: where in that plane, the lowest row and in it the lowest column; 0 and
- * 0 where the call took no picture. Of an accepted image check without a source: the first pixel that has none, likewise. */
+ * 0 where the call took no picture. Of an accepted image check without a source: the first pixel that has none, likewise. Of an
+ * accepted judgement that does not agree: the first wrong pixel, likewise; 0 and 0 where it agrees. */
 static inline unsigned cork_row(cork_answer answer)
 {
     return (unsigned)(answer.packed >> 16 & 0xffff);
@@ -233,6 +241,12 @@ typedef struct cork_levels {
     float cr;
 } cork_levels;
 
+/* What a judgement finds. wrong counts pixels, not samples, and is 0 where the frame agrees and where the call is refused. */
+typedef struct cork_judgement {
+    cork_answer answer;
+    uint64_t wrong;
+} cork_judgement;
+
 /* ---- The library's own functions: use the cork_ functions below ----
  *
  * A setting is one number, as cork_word_ makes it, and a picture plane is a pointer and a length. The library's compiler knows
@@ -243,6 +257,9 @@ typedef struct cork_levels {
         size_t source_length2
 #define CORK_OUTPUT_PARAMETERS_                                                                                     \
     uint16_t *output0, size_t output_length0, uint16_t *output1, size_t output_length1, uint16_t *output2, size_t output_length2
+#define CORK_CLAIMED_PARAMETERS_                                                                                    \
+    const uint16_t *claimed0, size_t claimed_length0, const uint16_t *claimed1, size_t claimed_length1,             \
+        const uint16_t *claimed2, size_t claimed_length2
 
 #ifdef __cplusplus
 extern "C" {
@@ -257,6 +274,10 @@ uint64_t corkplover_forward_frame(uint64_t setting, size_t width, size_t height,
 uint64_t corkplover_reverse_frame(uint64_t setting, size_t width, size_t height, size_t source_stride, size_t output_stride,
                                   CORK_SOURCE_PARAMETERS_, CORK_OUTPUT_PARAMETERS_);
 uint64_t corkplover_image_check(uint64_t setting, size_t width, size_t height, size_t stride, CORK_SOURCE_PARAMETERS_);
+uint64_t corkplover_judge_forward(uint64_t setting, size_t width, size_t height, size_t source_stride, size_t claimed_stride,
+                                  CORK_SOURCE_PARAMETERS_, CORK_CLAIMED_PARAMETERS_, uint64_t *wrong);
+uint64_t corkplover_judge_reverse(uint64_t setting, size_t width, size_t height, size_t source_stride, size_t claimed_stride,
+                                  CORK_SOURCE_PARAMETERS_, CORK_CLAIMED_PARAMETERS_, uint64_t *wrong);
 uint64_t corkplover_meter_y(uint64_t setting, uint16_t y, float *level);
 uint64_t corkplover_meter_cb(uint64_t setting, uint16_t cb, float *level);
 uint64_t corkplover_meter_cr(uint64_t setting, uint16_t cr, float *level);
@@ -353,6 +374,32 @@ static inline cork_answer cork_image_check(cork_setting s, size_t width, size_t 
     return cork_answer_(corkplover_image_check(cork_word_(s), width, height, ycc.stride, CORK_PLANES_(ycc)));
 }
 
+/* ---- Judging ----
+ *
+ * Whether another converter's frame is right: claimed is what it made of source. Forward, the source is R, G, B and the claim is
+ * Y, Cb, Cr; reverse the other way. Accepted: cork_agrees, and where it is false the first wrong pixel by cork_row and cork_column,
+ * and in wrong the number of wrong pixels in the whole picture. A pixel is wrong if one of its samples is not the one that the
+ * frame call would write. A claimed sample above its depth is never right, and no reason to refuse. Both pictures are only read.
+ * Refusals: 12, 1 to 7, 8, 9 and 10; 8 and 9 speak of both sides, 10 of the source alone.
+ */
+static inline cork_judgement cork_judge_forward(cork_setting s, size_t width, size_t height, cork_source source,
+                                                cork_source claimed)
+{
+    cork_judgement judgement;
+    judgement.answer = cork_answer_(corkplover_judge_forward(cork_word_(s), width, height, source.stride, claimed.stride,
+                                                             CORK_PLANES_(source), CORK_PLANES_(claimed), &judgement.wrong));
+    return judgement;
+}
+
+static inline cork_judgement cork_judge_reverse(cork_setting s, size_t width, size_t height, cork_source source,
+                                                cork_source claimed)
+{
+    cork_judgement judgement;
+    judgement.answer = cork_answer_(corkplover_judge_reverse(cork_word_(s), width, height, source.stride, claimed.stride,
+                                                             CORK_PLANES_(source), CORK_PLANES_(claimed), &judgement.wrong));
+    return judgement;
+}
+
 /* ---- Spot meter ----
  *
  * The level that a sample stands for on a luma matrix: 0 to 1 from black to white for Y, -0.5 to 0.5 for Cb and Cr, and somewhat
@@ -390,6 +437,7 @@ static inline cork_levels cork_meter_pixel(cork_setting s, uint16_t y, uint16_t 
 
 #undef CORK_SOURCE_PARAMETERS_
 #undef CORK_OUTPUT_PARAMETERS_
+#undef CORK_CLAIMED_PARAMETERS_
 #undef CORK_FROM_BIT_
 #undef CORK_PLANES_
 

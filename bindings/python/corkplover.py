@@ -16,6 +16,8 @@ EDITION_2021, EDITION_DRAFT, EDITION_PUBLISHED = 1, 2, 3
 
 Setting = namedtuple("Setting", "primaries transfer matrix rgb_depth y_depth c_depth rgb_full ycc_full edition")
 Levels = namedtuple("Levels", "y cb cr")
+# Where a claimed frame is wrong: row and column of the first wrong pixel, and how many pixels are wrong in the whole picture.
+Difference = namedtuple("Difference", "row column wrong")
 
 ASSIGNED, UNSPECIFIED, RESERVED = range(3)
 
@@ -106,7 +108,7 @@ _library = ctypes.PyDLL(
     os.environ.get("CORKPLOVER_LIBRARY") or os.path.join(os.path.dirname(os.path.abspath(__file__)), "libcorkplover.so")
 )
 _BYTE, _SAMPLE, _SIZE, _SETTING = ctypes.c_uint8, ctypes.c_uint16, ctypes.c_size_t, ctypes.c_uint64
-_LEVEL = ctypes.POINTER(ctypes.c_float)
+_LEVEL, _COUNT = ctypes.POINTER(ctypes.c_float), ctypes.POINTER(ctypes.c_uint64)
 _PLANES = [ctypes.c_void_p, _SIZE] * 3
 
 
@@ -126,6 +128,8 @@ _exports = {
         "forward_frame": [_SIZE] * 4 + _PLANES + _PLANES,
         "reverse_frame": [_SIZE] * 4 + _PLANES + _PLANES,
         "image_check": [_SIZE] * 3 + _PLANES,
+        "judge_forward": [_SIZE] * 4 + _PLANES + _PLANES + [_COUNT],
+        "judge_reverse": [_SIZE] * 4 + _PLANES + _PLANES + [_COUNT],
         "meter_y": [_SAMPLE, _LEVEL],
         "meter_cb": [_SAMPLE, _LEVEL],
         "meter_cr": [_SAMPLE, _LEVEL],
@@ -172,6 +176,20 @@ def _frame(name, s, width, height, source, output):
     if not isinstance(source, Source) or not isinstance(output, Output):
         raise TypeError("a frame call takes a Source and an Output")
     _call(name, s, *_sizes(width, height, source.stride, output.stride), *_planes(source), *_planes(output))
+
+
+def _place(packed):
+    """Row and column that an accepted search for a pixel names, where it found one."""
+    return (packed >> 16 & 0xFFFF, packed >> 32 & 0xFFFF) if packed >> 8 & 0xFF else None
+
+
+def _judge(name, s, width, height, source, claimed):
+    if not isinstance(source, Source) or not isinstance(claimed, Source):
+        raise TypeError("a judgement takes two Sources, what was converted and what is claimed")
+    wrong = ctypes.c_uint64()
+    sizes = _sizes(width, height, source.stride, claimed.stride)
+    place = _place(_call(name, s, *sizes, *_planes(source), *_planes(claimed), ctypes.byref(wrong)))
+    return None if place is None else Difference(*place, wrong.value)
 
 
 def _reading(name, s, v):
@@ -223,8 +241,18 @@ def image_check(s, width, height, ycc):
     """None if some RGB picture converts to this one; else row and column of the first pixel without a source."""
     if not isinstance(ycc, Source):
         raise TypeError("an image check takes a Source")
-    packed = _call("image_check", s, *_sizes(width, height, ycc.stride), *_planes(ycc))
-    return (packed >> 16 & 0xFFFF, packed >> 32 & 0xFFFF) if packed >> 8 & 0xFF else None
+    return _place(_call("image_check", s, *_sizes(width, height, ycc.stride), *_planes(ycc)))
+
+
+def judge_forward(s, width, height, source, claimed):
+    """None if the claimed Y, Cb, Cr frame is what the formulas make of the R, G, B source; else where it is wrong, a Difference. A claimed
+    sample above its depth is wrong, and never refused."""
+    return _judge("judge_forward", s, width, height, source, claimed)
+
+
+def judge_reverse(s, width, height, source, claimed):
+    """The same the other way: the claim is R, G, B."""
+    return _judge("judge_reverse", s, width, height, source, claimed)
 
 
 def meter_y(s, y):

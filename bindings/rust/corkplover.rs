@@ -59,6 +59,14 @@ pub struct Refusal {
     pub sample: u16,
 }
 
+/// Where a claimed frame is wrong: row and column of the first wrong pixel, and how many pixels are wrong in the whole picture.
+#[derive(Clone, Copy, Debug, PartialEq, Eq)]
+pub struct Difference {
+    pub row: u16,
+    pub column: u16,
+    pub wrong: u64,
+}
+
 #[derive(Clone, Copy, Debug, PartialEq)]
 pub struct Levels {
     pub y: f32,
@@ -103,6 +111,12 @@ extern "C" {
         r: *mut u16, rs: usize, g: *mut u16, gs: usize, b: *mut u16, bs: usize) -> u64;
     fn corkplover_image_check(setting: u64, width: usize, height: usize, stride: usize,
         y: *const u16, ys: usize, cb: *const u16, cbs: usize, cr: *const u16, crs: usize) -> u64;
+    fn corkplover_judge_forward(setting: u64, width: usize, height: usize, source_stride: usize, claimed_stride: usize,
+        r: *const u16, rs: usize, g: *const u16, gs: usize, b: *const u16, bs: usize,
+        y: *const u16, ys: usize, cb: *const u16, cbs: usize, cr: *const u16, crs: usize, wrong: *mut u64) -> u64;
+    fn corkplover_judge_reverse(setting: u64, width: usize, height: usize, source_stride: usize, claimed_stride: usize,
+        y: *const u16, ys: usize, cb: *const u16, cbs: usize, cr: *const u16, crs: usize,
+        r: *const u16, rs: usize, g: *const u16, gs: usize, b: *const u16, bs: usize, wrong: *mut u64) -> u64;
     fn corkplover_meter_y(setting: u64, y: u16, level: *mut f32) -> u64;
     fn corkplover_meter_cb(setting: u64, cb: u16, level: *mut f32) -> u64;
     fn corkplover_meter_cr(setting: u64, cr: u16, level: *mut f32) -> u64;
@@ -116,11 +130,12 @@ fn word(s: &Setting) -> u64 {
     u64::from_le_bytes([s.primaries, s.transfer, s.matrix, s.rgb_depth, s.y_depth, s.c_depth, flags, s.edition])
 }
 
-/// Calls an export with the setting before everything else. The first form hands on planes, each as its pointer and its own length. Safe,
-/// since every pointer is that of a slice or a variable which stays borrowed while the call lasts.
+/// Calls an export with the setting before everything else. The first form hands on planes to be read and planes to be written, each as its
+/// pointer and its own length, and what comes after them. Safe, since every pointer is that of a slice or a variable which stays borrowed
+/// while the call lasts.
 macro_rules! call {
-    ($export:ident, $s:expr, ($($size:expr),*), [$($source:ident),*], [$($output:ident),*]) => {
-        call!($export, $s, $($size,)* $($source.as_ptr(), $source.len(),)* $($output.as_mut_ptr(), $output.len(),)*)
+    ($export:ident, $s:expr, ($($size:expr),*), [$($read:ident),*], [$($output:ident),*] $(, $last:expr)?) => {
+        call!($export, $s, $($size,)* $($read.as_ptr(), $read.len(),)* $($output.as_mut_ptr(), $output.len(),)* $($last)?)
     };
     ($export:ident, $s:expr, $($more:expr),* $(,)?) => {
         unsafe { $export(word($s), $($more),*) }
@@ -143,6 +158,16 @@ fn accepted(packed: u64) -> Result<u64, Refusal> {
         0 => Ok(packed),
         _ => Err(refusal(packed)),
     }
+}
+
+/// Row and column that an accepted search for a pixel names, where it found one.
+fn place(packed: u64) -> Option<(u16, u16)> {
+    let none = (packed >> 8) as u8 == 0;
+    if none { None } else { Some(((packed >> 16) as u16, (packed >> 32) as u16)) }
+}
+
+fn difference(packed: u64, wrong: u64) -> Option<Difference> {
+    place(packed).map(|(row, column)| Difference { row, column, wrong })
 }
 
 fn samples(packed: u64) -> [u16; 3] {
@@ -195,9 +220,22 @@ pub fn reverse_frame(s: &Setting, width: usize, height: usize, source: Source, o
 /// None if some RGB picture converts to this one; else row and column of the first pixel without a source.
 pub fn image_check(s: &Setting, width: usize, height: usize, ycc: Source) -> Result<Option<(u16, u16)>, Refusal> {
     let [y, cb, cr] = ycc.planes;
-    let packed = accepted(call!(corkplover_image_check, s, (width, height, ycc.stride), [y, cb, cr], []))?;
-    let found = (packed >> 8) as u8 == 0;
-    Ok(if found { None } else { Some(((packed >> 16) as u16, (packed >> 32) as u16)) })
+    accepted(call!(corkplover_image_check, s, (width, height, ycc.stride), [y, cb, cr], [])).map(place)
+}
+
+/// None if the claimed Y, Cb, Cr frame is what the formulas make of the R, G, B source; else where it is wrong. A claimed sample above its
+/// depth is wrong, and never refused.
+pub fn judge_forward(s: &Setting, width: usize, height: usize, source: Source, claimed: Source) -> Result<Option<Difference>, Refusal> {
+    let ([r, g, b], [y, cb, cr], mut wrong) = (source.planes, claimed.planes, 0);
+    accepted(call!(corkplover_judge_forward, s, (width, height, source.stride, claimed.stride), [r, g, b, y, cb, cr], [], &mut wrong))
+        .map(|packed| difference(packed, wrong))
+}
+
+/// The same the other way: the claim is R, G, B.
+pub fn judge_reverse(s: &Setting, width: usize, height: usize, source: Source, claimed: Source) -> Result<Option<Difference>, Refusal> {
+    let ([y, cb, cr], [r, g, b], mut wrong) = (source.planes, claimed.planes, 0);
+    accepted(call!(corkplover_judge_reverse, s, (width, height, source.stride, claimed.stride), [y, cb, cr, r, g, b], [], &mut wrong))
+        .map(|packed| difference(packed, wrong))
 }
 
 pub fn meter_y(s: &Setting, y: u16) -> Result<f32, Refusal> {

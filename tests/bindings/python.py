@@ -19,6 +19,11 @@ def planes(*three):
     return [array("H", plane) for plane in three]
 
 
+# Red, green and blue, and what the box makes of them
+RGB = planes([255, 0, 0, 999], [0, 255, 0, 999], [0, 0, 255, 999])
+YCC = planes([63, 127, 63], [129, 511, 129], [511, 256, 1])
+
+
 class Answers(unittest.TestCase):
     def refused(self, number, plane, sample, call, *words):
         with self.assertRaises(cork.Refusal) as caught:
@@ -55,6 +60,8 @@ class Answers(unittest.TestCase):
             s = LOSSLESS._replace(edition=edition, matrix=2)
             self.refused(12, 0, 0, cork.forward_frame, s, 1, 1, source, cork.Output([1, 1, 1], 1))
             self.refused(12, 0, 0, cork.image_check, s, 0, 0, source)
+            self.refused(12, 0, 0, cork.judge_forward, s, 0, 0, source, source)
+            self.refused(12, 0, 0, cork.judge_reverse, s, 0, 0, source, source)
             for call in (cork.forward_pixel, cork.reverse_pixel, cork.meter_pixel):
                 self.refused(12, 0, 0, call, s, (300, 0, 0))
             self.refused(12, 0, 0, cork.meter_cb, s, 300)
@@ -94,6 +101,33 @@ class Answers(unittest.TestCase):
         self.refused(11, 0, 0, cork.image_check, NARROW, 1, 1, yes)
         self.refused(8, 0, 0, cork.image_check, LOSSLESS, 2**64 - 1, 1, yes)
 
+    def test_frames_that_agree(self):
+        self.assertIsNone(cork.judge_forward(LOSSLESS, 3, 1, cork.Source(RGB, 4), cork.Source(YCC, 3)))
+        self.assertIsNone(cork.judge_reverse(LOSSLESS, 3, 1, cork.Source(YCC, 3), cork.Source(RGB, 4)))
+        grey = cork.Source(planes(*[[7, 9]] * 3), 1)
+        self.assertIsNone(cork.judge_forward(LOSSLESS._replace(matrix=0, c_depth=8), 1, 2, grey, grey))
+
+    def test_frames_that_differ(self):
+        """A claim with green wrong in two planes, once beyond its depth, and blue in one: pixels are counted, and none is refused."""
+        claimed = planes([63, 127, 62], [129, 512, 129], [511, 257, 1])
+        found = cork.judge_forward(LOSSLESS, 3, 1, cork.Source(RGB, 4), cork.Source(claimed, 3))
+        self.assertIs(type(found), cork.Difference)
+        self.assertEqual((found.row, found.column, found.wrong), (0, 1, 2))
+        found = cork.judge_forward(LOSSLESS, 1, 3, cork.Source(RGB, 1), cork.Source(claimed, 1))
+        self.assertEqual(found, cork.Difference(row=1, column=0, wrong=2))
+        claimed = planes([255, 0, 0], [0, 255, 0], [0, 0, 65535])
+        found = cork.judge_reverse(LOSSLESS, 1, 3, cork.Source(YCC, 1), cork.Source(claimed, 1))
+        self.assertEqual(found, cork.Difference(row=2, column=0, wrong=1))
+
+    def test_refused_judgements(self):
+        rgb, ycc, short = cork.Source(RGB, 4), cork.Source(YCC, 3), cork.Source(planes([63], [129], []), 1)
+        self.refused(2, 0, 0, cork.judge_forward, LOSSLESS._replace(matrix=2), 3, 1, rgb, ycc)
+        self.refused(8, 0, 0, cork.judge_forward, LOSSLESS, 2**64 - 1, 1, rgb, ycc)
+        self.refused(8, 0, 0, cork.judge_forward, LOSSLESS, 3, 1, rgb, cork.Source(YCC, 2))
+        self.refused(9, 0, 0, cork.judge_forward, LOSSLESS, 1, 1, rgb, short)
+        self.refused(9, 0, 0, cork.judge_reverse, LOSSLESS, 1, 1, short, rgb)
+        self.refused(10, 1, 300, cork.judge_forward, LOSSLESS, 1, 1, cork.Source(planes([0], [300], [0]), 1), ycc)
+
     def test_meters(self):
         self.assertEqual(cork.meter_y(NARROW, 235), 1.0)
         self.assertEqual(cork.meter_cb(NARROW, 240), 0.5)
@@ -119,6 +153,8 @@ class Duties(unittest.TestCase):
             self.assertRaises(ValueError, cork.forward_pixel, LOSSLESS._replace(matrix=wrong), (0, 0, 0))
         self.assertRaises(ValueError, cork.forward_pixel, LOSSLESS, (65536, 0, 0))
         self.assertRaises(ValueError, cork.image_check, LOSSLESS, 2**64, 1, cork.Source(planes([], [], []), 1))
+        self.assertRaises(ValueError, cork.judge_forward, LOSSLESS, 3, 1, cork.Source(RGB, 4), cork.Source(YCC, 2**64 + 3))
+        self.assertRaises(TypeError, cork.judge_reverse, LOSSLESS, 3, True, cork.Source(YCC, 3), cork.Source(RGB, 4))
         for wrong in ((cork.EDITION_PUBLISHED, 257), (257, 1)):
             self.assertRaises(ValueError, cork.matrix_label, *wrong)
         for wrong in (1.0, "1", True, None):
@@ -144,6 +180,9 @@ class Duties(unittest.TestCase):
         self.assertRaises(TypeError, cork.Source, planes([1], [1]), 1)
         self.assertRaises(TypeError, cork.Output, [1, 1], 1)
         self.assertRaises(TypeError, cork.forward_frame, LOSSLESS, 1, 1, cork.Output([1] * 3, 1), cork.Output([1] * 3, 1))
+        for wrong in (cork.Output([3] * 3, 3), YCC, None):
+            self.assertRaises(TypeError, cork.judge_forward, LOSSLESS, 3, 1, cork.Source(RGB, 4), wrong)
+            self.assertRaises(TypeError, cork.judge_reverse, LOSSLESS, 3, 1, wrong, cork.Source(RGB, 4))
 
     def test_no_plane_is_shared(self):
         """One array as all three sources, at an odd address, is read right; what a caller is given of an output is a copy."""

@@ -71,6 +71,8 @@ fn editions_that_are_none() {
         assert_eq!(forward_pixel(&s, [300, 0, 0]), Err(refused(12)));
         assert_eq!(reverse_pixel(&s, [300, 0, 0]), Err(refused(12)));
         assert_eq!(image_check(&s, 0, 0, source), Err(refused(12)));
+        assert_eq!(judge_forward(&s, 0, 0, source, source), Err(refused(12)));
+        assert_eq!(judge_reverse(&s, 0, 0, source, source), Err(refused(12)));
         assert_eq!(meter_pixel(&s, [300, 0, 0]), Err(refused(12)));
         assert_eq!(meter_cb(&s, 300), Err(refused(12)));
         for label in [primaries_label, transfer_label, matrix_label] {
@@ -113,6 +115,42 @@ fn image_checks() {
     assert_eq!(image_check(&LOSSLESS, 2, 1, none), Ok(Some((0, 1))));
     assert_eq!(image_check(&NARROW, 1, 1, yes), Err(refused(11)));
     assert_eq!(image_check(&LOSSLESS, usize::MAX, 1, yes), Err(refused(8)));
+}
+
+/// Red, green and blue, and what the box makes of them.
+const RGB: Source = Source { planes: [&[255, 0, 0, 999], &[0, 255, 0, 999], &[0, 0, 255, 999]], stride: 4 };
+const YCC: Source = Source { planes: [&[63, 127, 63], &[129, 511, 129], &[511, 256, 1]], stride: 3 };
+
+#[test]
+fn frames_that_agree() {
+    assert_eq!(judge_forward(&LOSSLESS, 3, 1, RGB, YCC), Ok(None));
+    assert_eq!(judge_reverse(&LOSSLESS, 3, 1, YCC, RGB), Ok(None));
+    let grey = Source { planes: [&[7, 9]; 3], stride: 1 };
+    let moved = Setting { matrix: 0, c_depth: 8, ..LOSSLESS };
+    assert_eq!(judge_forward(&moved, 1, 2, grey, grey), Ok(None));
+}
+
+/// A claim with green wrong in two planes, once beyond its depth, and blue in one: pixels are counted, and none is refused.
+#[test]
+fn frames_that_differ() {
+    let claimed = Source { planes: [&[63, 127, 62], &[129, 512, 129], &[511, 257, 1]], stride: 3 };
+    assert_eq!(judge_forward(&LOSSLESS, 3, 1, RGB, claimed), Ok(Some(Difference { row: 0, column: 1, wrong: 2 })));
+    let (rgb, claimed) = (Source { stride: 1, ..RGB }, Source { stride: 1, ..claimed });
+    assert_eq!(judge_forward(&LOSSLESS, 1, 3, rgb, claimed), Ok(Some(Difference { row: 1, column: 0, wrong: 2 })));
+    let claimed = Source { planes: [&[255, 0, 0], &[0, 255, 0], &[0, 0, 65535]], stride: 1 };
+    assert_eq!(judge_reverse(&LOSSLESS, 1, 3, Source { stride: 1, ..YCC }, claimed), Ok(Some(Difference { row: 2, column: 0, wrong: 1 })));
+}
+
+#[test]
+fn refused_judgements() {
+    let short = Source { planes: [&[63], &[129], &[]], stride: 1 };
+    assert_eq!(judge_forward(&Setting { matrix: 2, ..LOSSLESS }, 3, 1, RGB, YCC), Err(refused(2)));
+    assert_eq!(judge_forward(&LOSSLESS, usize::MAX, 1, RGB, YCC), Err(refused(8)));
+    assert_eq!(judge_forward(&LOSSLESS, 3, 1, RGB, Source { stride: 2, ..YCC }), Err(refused(8)));
+    assert_eq!(judge_forward(&LOSSLESS, 1, 1, RGB, short), Err(refused(9)));
+    assert_eq!(judge_reverse(&LOSSLESS, 1, 1, short, RGB), Err(refused(9)));
+    let beyond = Refusal { plane: 0, column: 3, sample: 999, ..refused(10) };
+    assert_eq!(judge_forward(&LOSSLESS, 4, 1, RGB, RGB), Err(beyond));
 }
 
 #[test]

@@ -95,14 +95,12 @@ static void print_plane(const uint16_t *plane, size_t length)
 static void frame_case_of(char letter)
 {
     frame_case c = read_frame_case(letter);
-    cork_output output;
-    output.stride = c.output_stride;
+    cork_output output = c.other;
     for (int k = 0; k < 3; k++) {
-        output.length[k] = c.output_length[k];
         output.plane[k] = new_plane(output.length[k]);
         for (size_t i = 0; filled && i < output.length[k]; i++) output.plane[k][i] = 0xa5a5;
     }
-    cork_answer a = convert_frame(&c, source_of(&c), output);
+    cork_answer a = convert_frame(&c, cork_read_back(c.source), output);
     if (cork_accepted(a))
         printf("done\n");
     else
@@ -111,20 +109,39 @@ static void frame_case_of(char letter)
         print_plane(output.plane[k], output.length[k]);
         free(output.plane[k]);
     }
-    free_source(&c);
+    free_case(&c);
 }
 
 static void image_case(void)
 {
     frame_case c = read_frame_case('I');
-    cork_answer a = cork_image_check(c.setting, c.width, c.height, source_of(&c));
+    cork_answer a = cork_image_check(c.setting, c.width, c.height, cork_read_back(c.source));
     if (!cork_accepted(a))
         print_refusal(a);
     else if (cork_has_source(a))
         printf("yes\n");
     else
         printf("none row %u column %u\n", cork_row(a), cork_column(a));
-    free_source(&c);
+    free_case(&c);
+}
+
+static void judgement_case(char letter)
+{
+    frame_case c = read_frame_case(letter);
+    cork_source source = cork_read_back(c.source), claimed = cork_read_back(c.other);
+    cork_judgement judgement = letter == 'J' ? cork_judge_forward(c.setting, c.width, c.height, source, claimed)
+                                             : cork_judge_reverse(c.setting, c.width, c.height, source, claimed);
+    cork_answer a = judgement.answer;
+    bool differs = cork_accepted(a) && !cork_agrees(a);
+    if (differs)
+        printf("differs row %u column %u wrong %" PRIu64 "\n", cork_row(a), cork_column(a), judgement.wrong);
+    else if (judgement.wrong != 0)
+        printf("pixels are counted where none is wrong\n");
+    else if (cork_accepted(a))
+        printf("agrees\n");
+    else
+        print_refusal(a);
+    free_case(&c);
 }
 
 int main(int count, char **words)
@@ -139,6 +156,7 @@ int main(int count, char **words)
         case 'm': levels_case(); break;
         case 'F': case 'R': frame_case_of(letter); break;
         case 'I': image_case(); break;
+        case 'J': case 'K': judgement_case(letter); break;
         default: stop("not a case");
         }
     }

@@ -86,6 +86,16 @@ def frame(call):
     return run
 
 
+def judgement(call):
+    def run(w):
+        s, width, height = w.setting(), w.number(), w.number()
+        stride, claimed_stride = w.number(), w.number()
+        d = call(s, width, height, w.source(stride), w.source(claimed_stride))
+        return "agrees" if d is None else "differs row %d column %d wrong %d" % (d.row, d.column, d.wrong)
+
+    return run
+
+
 CALLS = {
     "p": label(cork.primaries_label),
     "t": label(cork.transfer_label),
@@ -100,6 +110,8 @@ CALLS = {
     "F": frame(cork.forward_frame),
     "R": frame(cork.reverse_frame),
     "I": image,
+    "J": judgement(cork.judge_forward),
+    "K": judgement(cork.judge_reverse),
 }
 
 for line in sys.stdin:

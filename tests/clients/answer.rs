@@ -105,6 +105,16 @@ fn frame(w: &mut Words, forward: bool) -> String {
     lines
 }
 
+fn judgement(w: &mut Words, forward: bool) -> String {
+    let (s, width, height, stride, claimed_stride) = (w.setting(), w.number(), w.number(), w.number(), w.number());
+    let (source, claimed) = (w.planes(), w.planes());
+    let judge = if forward { judge_forward } else { judge_reverse };
+    said(judge(&s, width, height, borrowed(&source, stride), borrowed(&claimed, claimed_stride)), |found| match found {
+        None => String::from("agrees"),
+        Some(d) => format!("differs row {} column {} wrong {}", d.row, d.column, d.wrong),
+    })
+}
+
 fn answer(line: &str) -> String {
     let mut words = Words(line.split_ascii_whitespace());
     let w = &mut words;
@@ -122,6 +132,8 @@ fn answer(line: &str) -> String {
         "F" => frame(w, true),
         "R" => frame(w, false),
         "I" => image(w),
+        "J" => judgement(w, true),
+        "K" => judgement(w, false),
         other => panic!("'{}' is not a case", other),
     }
 }

@@ -51,28 +51,40 @@ static inline uint16_t *new_plane(size_t length)
     return plane ? plane : (uint16_t *)malloc(1);
 }
 
+/* A frame case has an output, a judgement a claimed picture, and an image check neither. */
 typedef struct frame_case {
     char letter;
     cork_setting setting;
     size_t width;
     size_t height;
-    size_t stride;
-    size_t output_stride;
-    uint16_t *source[3];
-    size_t source_length[3];
-    size_t output_length[3];
+    cork_output source;
+    cork_output other; /* an output's planes are null: each test has its own */
 } frame_case;
 
-static inline void read_source(frame_case *c)
+static inline bool is_judgement(char letter)
+{
+    return letter == 'J' || letter == 'K';
+}
+
+static inline void read_planes(cork_output *picture)
 {
     for (int k = 0; k < 3; k++) {
-        c->source_length[k] = (size_t)number();
-        c->source[k] = new_plane(c->source_length[k]);
-        for (size_t i = 0; i < c->source_length[k]; i++) c->source[k][i] = (uint16_t)number();
+        picture->length[k] = (size_t)number();
+        picture->plane[k] = new_plane(picture->length[k]);
+        for (size_t i = 0; i < picture->length[k]; i++) picture->plane[k][i] = (uint16_t)number();
     }
 }
 
-/* An image check, I, has no output: its three output lengths are 0. */
+/* Three lengths and the old contents, of which each test has its own too; all 0 where the case has no output. */
+static inline void read_output(cork_output *picture, char letter)
+{
+    for (int k = 0; k < 3; k++) {
+        picture->length[k] = letter == 'I' ? 0 : (size_t)number();
+        picture->plane[k] = NULL;
+    }
+    if (letter != 'I') number();
+}
+
 static inline frame_case read_frame_case(char letter)
 {
     frame_case c;
@@ -80,31 +92,39 @@ static inline frame_case read_frame_case(char letter)
     c.setting = read_setting();
     c.width = (size_t)number();
     c.height = (size_t)number();
-    c.stride = (size_t)number();
-    c.output_stride = letter == 'I' ? 0 : (size_t)number();
-    read_source(&c);
-    for (int k = 0; k < 3; k++) c.output_length[k] = letter == 'I' ? 0 : (size_t)number();
-    if (letter != 'I') number(); /* the old contents: each test has its own */
+    c.source.stride = (size_t)number();
+    c.other.stride = letter == 'I' ? 0 : (size_t)number();
+    read_planes(&c.source);
+    if (is_judgement(letter))
+        read_planes(&c.other);
+    else
+        read_output(&c.other, letter);
     return c;
 }
 
-static inline void free_source(frame_case *c)
+static inline void free_case(frame_case *c)
 {
-    for (int k = 0; k < 3; k++) free(c->source[k]);
-}
-
-static inline cork_source source_of(const frame_case *c)
-{
-    cork_source source = {{c->source[0], c->source[1], c->source[2]},
-                          {c->source_length[0], c->source_length[1], c->source_length[2]},
-                          c->stride};
-    return source;
+    for (int k = 0; k < 3; k++) {
+        free(c->source.plane[k]);
+        free(c->other.plane[k]);
+    }
 }
 
 static inline cork_answer convert_frame(const frame_case *c, cork_source source, cork_output output)
 {
     if (c->letter == 'F') return cork_forward_frame(c->setting, c->width, c->height, source, output);
     return cork_reverse_frame(c->setting, c->width, c->height, source, output);
+}
+
+#define PLANES(p) (p).plane[0], (p).length[0], (p).plane[1], (p).length[1], (p).plane[2], (p).length[2]
+
+/* By the library's own functions, so that a test has a say in what the count held before. */
+static inline uint64_t judge_into(uint64_t *wrong, char letter, uint64_t word, size_t width, size_t height, cork_source source,
+                                  cork_source claimed)
+{
+    size_t from = source.stride, to = claimed.stride;
+    if (letter == 'J') return corkplover_judge_forward(word, width, height, from, to, PLANES(source), PLANES(claimed), wrong);
+    return corkplover_judge_reverse(word, width, height, from, to, PLANES(source), PLANES(claimed), wrong);
 }
 
 #endif

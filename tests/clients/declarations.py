@@ -12,12 +12,14 @@ import sys
 import corkplover
 
 RATTLE = {"u8": "u8", "u16": "u16", "u64": "u64", "usize": "usize", "&[u16]": "*u16 usize", "&mut [u16]": "*mut-u16 usize",
-          "&mut f32": "*f32"}
+          "&mut f32": "*f32", "&mut u64": "*u64"}
 C = {"uint8_t": "u8", "uint16_t": "u16", "uint64_t": "u64", "size_t": "usize", "const uint16_t *": "*u16", "uint16_t *": "*mut-u16",
-     "float *": "*f32"}
-RUST = {"u8": "u8", "u16": "u16", "u64": "u64", "usize": "usize", "*const u16": "*u16", "*mut u16": "*mut-u16", "*mut f32": "*f32"}
+     "float *": "*f32", "uint64_t *": "*u64"}
+RUST = {"u8": "u8", "u16": "u16", "u64": "u64", "usize": "usize", "*const u16": "*u16", "*mut u16": "*mut-u16", "*mut f32": "*f32",
+        "*mut u64": "*u64"}
 # to Python a size and any other number of 64 bits are one type, and so are pointers to numbers that are read and that are written
-PYTHON = {ctypes.c_uint8: "u8", ctypes.c_uint16: "u16", ctypes.c_uint64: "u64", ctypes.c_void_p: "pointer", ctypes.POINTER(ctypes.c_float): "*f32"}
+PYTHON = {ctypes.c_uint8: "u8", ctypes.c_uint16: "u16", ctypes.c_uint64: "u64", ctypes.c_void_p: "pointer",
+          ctypes.POINTER(ctypes.c_float): "*f32", ctypes.POINTER(ctypes.c_uint64): "*u64"}
 
 
 def parameters(text, split, table):
@@ -100,7 +102,7 @@ def main():
         wrong += 1
         print(line)
     print("%d exports, %d differences" % (len(source), wrong))
-    return 1 if wrong or len(source) < 12 else 0
+    return 1 if wrong or len(source) < 14 else 0
 
 
 if __name__ == "__main__":

@@ -1,6 +1,12 @@
 /* Runs every frame case twice, with two different fills of the output. Every plane stands in a larger block with guards on both
- * sides. What must hold: both runs give the same answer and the same planes, the sources are as they were, and no guard moved. */
+ * sides. What must hold: both runs give the same answer and the same planes, the sources are as they were, and no guard moved.
+ *
+ * A judgement writes to its count alone. Its six planes stand in pages that may only be read, and a page that may not be touched at all
+ * follows each of them in the one run and goes before it in the other. */
+#define _DEFAULT_SOURCE
 #include "cases.h"
+#include "pages.h"
+#include <signal.h>
 
 enum { GUARD = 64 };
 
@@ -70,13 +76,13 @@ static cork_answer run(const frame_case *c, guarded output[3], long which)
     guarded source[3];
     cork_source from;
     cork_output to;
-    from.stride = c->stride;
-    to.stride = c->output_stride;
+    from.stride = c->source.stride;
+    to.stride = c->other.stride;
     for (int k = 0; k < 3; k++) {
-        source[k] = new_guarded(c->source_length[k]);
-        memcpy(plane_of(source[k]), c->source[k], source[k].length * sizeof(uint16_t));
+        source[k] = new_guarded(c->source.length[k]);
+        memcpy(plane_of(source[k]), c->source.plane[k], source[k].length * sizeof(uint16_t));
         memcpy(source[k].before, source[k].block, block_length(source[k]) * sizeof(uint16_t));
-        output[k] = new_guarded(c->output_length[k]);
+        output[k] = new_guarded(c->other.length[k]);
         from.plane[k] = plane_of(source[k]);
         from.length[k] = source[k].length;
         to.plane[k] = plane_of(output[k]);
@@ -91,21 +97,57 @@ static cork_answer run(const frame_case *c, guarded output[3], long which)
     return a;
 }
 
+static cork_answer convert_twice(const frame_case *c, long which)
+{
+    guarded first[3], second[3];
+    cork_answer one = run(c, first, which), two = run(c, second, which);
+    must(one.packed == two.packed, "two fills give two answers", which);
+    for (int k = 0; k < 3; k++) {
+        must(is_same(plane_of(first[k]), plane_of(second[k]), first[k].length), "two fills give two pictures", which);
+        release(first[k]);
+        release(second[k]);
+    }
+    return one;
+}
+
+static cork_judgement judge_in_pages(const frame_case *c, bool fence_after, long which)
+{
+    fenced source = new_fenced(c->source, fence_after), claimed = new_fenced(c->other, fence_after);
+    uint64_t guard = noise(), counts[3] = {guard, noise(), guard};
+    cork_judgement found;
+    found.answer.packed =
+        judge_into(&counts[1], c->letter, cork_word_(c->setting), c->width, c->height, source.picture, claimed.picture);
+    found.wrong = counts[1];
+    must(counts[0] == guard && counts[2] == guard, "something beside the count changed", which);
+    release_fenced(source);
+    release_fenced(claimed);
+    return found;
+}
+
+static cork_answer judge_twice(const frame_case *c, long which)
+{
+    cork_judgement one = judge_in_pages(c, true, which), two = judge_in_pages(c, false, which);
+    must(one.answer.packed == two.answer.packed && one.wrong == two.wrong, "two places give two answers", which);
+    return one.answer;
+}
+
+static long count;
+
+static void on_fault(int number)
+{
+    printf("frame case %ld: signal %d, from a page that may not be touched or written\n", count, number);
+    fflush(stdout);
+    _exit(1);
+}
+
 int main(void)
 {
-    long count = 0, accepted = 0;
+    long accepted = 0;
+    signal(SIGSEGV, on_fault);
     for (char letter; (letter = next_case()) != 0; count++) {
         frame_case c = read_frame_case(letter);
-        guarded first[3], second[3];
-        cork_answer one = run(&c, first, count), two = run(&c, second, count);
-        must(one.packed == two.packed, "two fills give two answers", count);
-        for (int k = 0; k < 3; k++) {
-            must(is_same(plane_of(first[k]), plane_of(second[k]), first[k].length), "two fills give two pictures", count);
-            release(first[k]);
-            release(second[k]);
-        }
-        accepted += cork_accepted(one);
-        free_source(&c);
+        accepted += cork_accepted(is_judgement(letter) ? judge_twice(&c, count) : convert_twice(&c, count));
+        free_case(&c);
     }
     printf("%ld frames, %ld accepted\n", count, accepted);
     return accepted > 0 && accepted < count ? 0 : 1;

@@ -72,6 +72,42 @@ static void image_check(size_t width)
     must(cork_row(a) == SIDE - 1 && cork_column(a) == width - 1, "its place is wrong");
 }
 
+static cork_judgement judge(size_t width, size_t stride, size_t shorter_by)
+{
+    cork_source from = cork_source_of(sources[0], sources[1], sources[2], length, stride);
+    cork_source claimed = cork_source_of(planes[0], planes[1], planes[2], length - shorter_by, stride);
+    return cork_judge_forward(LOSSLESS, width, SIDE, from, claimed);
+}
+
+static bool differs_at(cork_judgement found, size_t row, size_t column, uint64_t wrong)
+{
+    cork_answer a = found.answer;
+    return cork_accepted(a) && !cork_agrees(a) && cork_row(a) == row && cork_column(a) == column && found.wrong == wrong;
+}
+
+/* On planes that hold the picture as it should be: right, then wrong in the last corner, then in every pixel. */
+static void judge_at(size_t width, size_t stride)
+{
+    cork_judgement found = judge(width, stride, 0);
+    must(cork_accepted(found.answer) && cork_agrees(found.answer) && found.wrong == 0, "the largest frame is judged wrong");
+    planes[1][cork_needed_length(width, SIDE, stride) - 1] ^= 1;
+    must(differs_at(judge(width, stride, 0), SIDE - 1, width - 1, 1), "a wrong pixel in the last corner is missed");
+    memset(planes[2], 0xa5, length * sizeof(uint16_t));
+    must(differs_at(judge(width, stride, 0), 0, 0, (uint64_t)width * SIDE), "wrong pixels are not all counted");
+}
+
+/* Also without padding: at that stride the white pixel lies behind the picture. */
+static void check_judgement(size_t width)
+{
+    must(cork_accepted(convert(width, 0)), "the largest frame is not served");
+    judge_at(width, STRIDE);
+    cork_judgement found = judge(width, STRIDE, 1);
+    must(found.answer.packed == CORK_PLANE_TOO_SHORT && found.wrong == 0, "a claim of one element less is not refused with 9");
+    for (int k = 0; k < 3; k++)
+        for (size_t i = 0; i < width * SIDE; i++) planes[k][i] = BLACK[k];
+    judge_at(width, width);
+}
+
 int main(void)
 {
     const size_t widths[] = {SIDE, 1};
@@ -86,6 +122,7 @@ int main(void)
         }
         check_frames(widths[w]);
         image_check(widths[w]);
+        check_judgement(widths[w]);
         for (int k = 0; k < 3; k++) {
             free(sources[k]);
             free(planes[k]);

@@ -135,6 +135,23 @@ uint64_t slipped_meter_pixel(uint64_t word, uint16_t p, uint16_t q, uint16_t r, 
 FRAME_CALL(forward_frame)
 FRAME_CALL(reverse_frame)
 
+#define CLAIMED_PLANES const uint16_t *x, size_t xs, const uint16_t *y, size_t ys, const uint16_t *z, size_t zs
+
+#define JUDGE_CALL(name)                                                                                              \
+    uint64_t slipped_##name(uint64_t word, size_t w, size_t v, size_t t, size_t u, PLANES, CLAIMED_PLANES,            \
+                            uint64_t *wrong);                                                                         \
+    uint64_t slipped_##name(uint64_t word, size_t w, size_t v, size_t t, size_t u, PLANES, CLAIMED_PLANES,            \
+                            uint64_t *wrong)                                                                          \
+    {                                                                                                                 \
+        slot s[] = {{word, 0},   {w, 0},      {v, 0},      {t, 0},      {u, 0},     LENT(p, ps),                      \
+                    LENT(q, qs), LENT(r, rs), LENT(x, xs), LENT(y, ys), LENT(z, zs)};                                 \
+        slip(#name, s);                                                                                               \
+        return corkplover_##name(NUMBER(0), NUMBER(1), NUMBER(2), NUMBER(3), NUMBER(4), SOURCE(5), SOURCE(6),         \
+                                 SOURCE(7), SOURCE(8), SOURCE(9), SOURCE(10), wrong);                                 \
+    }
+JUDGE_CALL(judge_forward)
+JUDGE_CALL(judge_reverse)
+
 uint64_t slipped_image_check(uint64_t word, size_t w, size_t v, size_t t, PLANES);
 uint64_t slipped_image_check(uint64_t word, size_t w, size_t v, size_t t, PLANES)
 {

@@ -27,6 +27,8 @@ static cork_output output(void) { return cork_output_of(to[0], to[1], to[2], LEN
 static void forward_frame(void) { seen = cork_forward_frame(setting, WIDTH, HEIGHT, source(), output()).packed; }
 static void reverse_frame(void) { seen = cork_reverse_frame(setting, WIDTH, HEIGHT, source(), output()).packed; }
 static void image_check(void) { seen = cork_image_check(setting, WIDTH, HEIGHT, source()).packed; }
+static void judge_forward(void) { seen = cork_judge_forward(setting, WIDTH, HEIGHT, source(), source()).wrong; }
+static void judge_reverse(void) { seen = cork_judge_reverse(setting, WIDTH, HEIGHT, source(), source()).wrong; }
 static void forward_pixel(void) { seen = cork_forward_pixel(setting, 1, 2, 3).packed; }
 static void reverse_pixel(void) { seen = cork_reverse_pixel(setting, 1, 2, 3).packed; }
 static void meter_pixel(void) { seen = cork_meter_pixel(setting, 1, 2, 3).answer.packed; }
@@ -54,8 +56,8 @@ static size_t taken_by(void (*call)(void))
     return STACK - deepest;
 }
 
-static void (*const CALLS[])(void) = {forward_frame, reverse_frame, image_check, forward_pixel, reverse_pixel,
-                                      meter_pixel,   meter_y,       meter_cb,    meter_cr,      labels};
+static void (*const CALLS[])(void) = {forward_frame, reverse_frame, image_check, judge_forward, judge_reverse, forward_pixel,
+                                      reverse_pixel, meter_pixel,   meter_y,     meter_cb,      meter_cr,      labels};
 
 static size_t most_taken(void)
 {

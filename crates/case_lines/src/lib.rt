@@ -3,9 +3,11 @@
 ghost use mathlib.Core.Path.{_≡_};
 ghost use lib.ListN.{replicate};
 
+mod claims;
 mod pictures;
 mod say;
 
+use crate::pictures::FrameTask;
 use meter::SampleKind;
 use request::form;
 use request::form::Asked;
@@ -55,9 +57,11 @@ fn on_words(asked: usize, words: &[u8], edition: u8) {
         7 => on_label(words, edition, CodeKind::Primaries),
         8 => on_label(words, edition, CodeKind::Transfer),
         9 => on_label(words, edition, CodeKind::Matrix),
-        10 => pictures::on_frame(words, edition, Way::Forward),
-        11 => pictures::on_frame(words, edition, Way::Reverse),
+        10 => pictures::on_frame(words, edition, FrameTask::Convert(Way::Forward)),
+        11 => pictures::on_frame(words, edition, FrameTask::Convert(Way::Reverse)),
         12 => pictures::on_image(words, edition),
+        13 => pictures::on_frame(words, edition, FrameTask::Judge(Way::Forward)),
+        14 => pictures::on_frame(words, edition, FrameTask::Judge(Way::Reverse)),
         _ => say::bad_line(),
     }
 }
@@ -69,16 +73,16 @@ fn on_line(line: &[u8]) {
         say::bad_line();
         return;
     }
-    let asked = reading::place_at(line, GAP, 0, b"f r s m y b c p t x F R I");
+    let asked = reading::place_at(line, GAP, 0, b"f r s m y b c p t x F R I J K");
     let number = edition.value as u8;
     on_words(asked, reading::words_from(line, GAP, 1), number);
 }
 
 // Room for the text of all cases.
-pub fn room() -> [u8; 1200000]
-    ensures { λ r. ⌜ r ≡ replicate 1200000 0 ⌝ }
+pub fn room() -> [u8; 1400000]
+    ensures { λ r. ⌜ r ≡ replicate 1400000 0 ⌝ }
 {
-    [0; 1200000]
+    [0; 1400000]
 }
 
 // Every line.

@@ -7,6 +7,7 @@ ghost use Rattle.frame.specs.Frame.{inputPicture, outputLayout, PlanesAfter, Fr
 ghost use Rattle.case_lines.specs.Lines.{sizeWord, pictureWords, stepAt, planeAt, planeOver, oldPlane};
 use crate::GAP;
 use crate::RANGES;
+use crate::claims;
 use crate::say;
 use corkplover::frames;
 use frame::FrameAnswer;
@@ -19,7 +20,7 @@ use text::reading;
 use text::reading::Number;
 
 // The longest plane that there is room for.
-const ROOM: usize = 20000;
+pub const ROOM: usize = 20000;
 
 // The largest number of 64 bits.
 const LARGEST: u64 = 18446744073709551615;
@@ -36,9 +37,9 @@ struct Step {
     next: usize,
 }
 
-struct ReadPlane {
-    length: usize,
-    next: usize,
+pub struct ReadPlane {
+    pub length: usize,
+    pub next: usize,
 }
 
 // What a line has before its planes, and the first word at fault.
@@ -50,9 +51,16 @@ struct ReadPicture {
     fault: u8,
 }
 
-// What a line asks about the picture of its planes: convert it, or check it with this width, height and stride.
+// What a line asks about a frame.
+pub enum FrameTask {
+    Convert(Way),
+    Judge(Way),
+}
+
+// What a line asks about the picture of its planes: convert it, judge what is claimed of it, or check it with this width, height and stride.
 enum PictureRequest {
     Convert(Way, Setting, Size),
+    Judge(Way, Setting, Size),
     Check(Setting, usize, usize, usize),
 }
 
@@ -73,7 +81,7 @@ fn next_number(line: &[u8], at: usize, most: u64) -> Step
 }
 
 // A plane: its length and then its elements.
-fn plane(line: &[u8], at: usize, out: &mut [u16]) -> ReadPlane
+pub fn plane(line: &[u8], at: usize, out: &mut [u16]) -> ReadPlane
     ensures { λ r. ⌜ r ≡ planeAt (now (line .entry)) at (length (now (out .entry))) ⌝ }
     ensures { λ r. ⌜ r .length ≤ length (now (out .entry)) ⌝ }
     ensures { λ _. ⌜ now (out .exit) ≡ planeOver (now (line .entry)) at (now (out .entry)) ⌝ }
@@ -216,6 +224,7 @@ fn check(
 fn on_planes(line: &[u8], at: usize, request: PictureRequest, a0: &[u16], a1: &[u16], a2: &[u16]) {
     match request {
         PictureRequest::Convert(way, s, z) => convert_into(line, at, way, s, z, a0, a1, a2),
+        PictureRequest::Judge(way, s, z) => claims::judge(line, at, way, s, z, a0, a1, a2),
         PictureRequest::Check(s, w, h, stride) => check(line, at, s, w, h, stride, a0, a1, a2),
     }
 }
@@ -252,7 +261,7 @@ fn picture_words(line: &[u8], edition: u8) -> ReadPicture
     }
 }
 
-pub fn on_frame(line: &[u8], edition: u8, way: Way) {
+pub fn on_frame(line: &[u8], edition: u8, task: FrameTask) {
     let p = picture_words(line, edition);
     let output = size_at(line, 12, p.fault);
     if output.fault != form::CLEAR {
@@ -266,7 +275,14 @@ pub fn on_frame(line: &[u8], edition: u8, way: Way) {
         input_stride: p.stride,
         output_stride: output.value as usize,
     };
-    on_picture(line, 13, PictureRequest::Convert(way, setting, size));
+    match task {
+        FrameTask::Convert(way) => on_picture(
+            line,
+            13,
+            PictureRequest::Convert(way, setting, size),
+        ),
+        FrameTask::Judge(way) => on_picture(line, 13, PictureRequest::Judge(way, setting, size)),
+    }
 }
 
 pub fn on_image(line: &[u8], edition: u8) {

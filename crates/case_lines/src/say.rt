@@ -1,6 +1,7 @@
 // Answers as lines of text.
 use frame::FrameAnswer;
 use image_check::ImageAnswer;
+use judge::Judgement;
 use libc::STDOUT_FILENO;
 use refusal::Place;
 use refusal::Refusal;
@@ -48,6 +49,16 @@ fn no_source(place: Place) {
     number(place.row as u64);
     words(b" column ");
     number(place.column as u64);
+    words(b"\n");
+}
+
+fn differs(place: Place, wrong: u64) {
+    words(b"differs row ");
+    number(place.row as u64);
+    words(b" column ");
+    number(place.column as u64);
+    words(b" wrong ");
+    number(wrong);
     words(b"\n");
 }
 
@@ -138,5 +149,13 @@ pub fn image(a: ImageAnswer) {
         ImageAnswer::Yes => words(b"yes\n"),
         ImageAnswer::NoSource(place) => no_source(place),
         ImageAnswer::Refused(r) => refusal(r),
+    }
+}
+
+pub fn judgement(j: Judgement) {
+    match j {
+        Judgement::Agrees => words(b"agrees\n"),
+        Judgement::Differs(place, wrong) => differs(place, wrong),
+        Judgement::Refused(r) => refusal(r),
     }
 }

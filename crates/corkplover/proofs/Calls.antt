@@ -8,6 +8,7 @@ use Rattle.setting.specs.declared.Way.the-variants.{Forward, Reverse}
 use Rattle.planes.specs.Picture.{picture}
 use Rattle.frame.specs.Frame.{inputPicture, outputLayout, FrameAfter}
 use Rattle.image_check.specs.Image.{imageAnswer}
+use Rattle.judge.specs.Judge.{claimedPicture, judgement}
 use Rattle.corkplover.specs.Answers.{labelAnswer, pixelAnswer, sourceAnswer, reading, levelsAnswer}
 use Rattle.corkplover.proofs.labels.label.Reads as label
 use Rattle.corkplover.proofs.pixels.forward_pixel.Reads as forward-pixel
@@ -18,6 +19,8 @@ use Rattle.corkplover.proofs.meters.meter_pixel.Reads as meter-pixel
 use Rattle.corkplover.proofs.frames.forward_frame.Reads as forward-frame
 use Rattle.corkplover.proofs.frames.reverse_frame.Reads as reverse-frame
 use Rattle.corkplover.proofs.frames.image_check.Reads as image-check
+use Rattle.corkplover.proofs.judging.judge_forward.Reads as judge-forward
+use Rattle.corkplover.proofs.judging.judge_reverse.Reads as judge-reverse
 
 pub label-answers : (κs kind edition code r t : _) → label.Post κs (kind, (edition, (code, tt))) r t → r ≡ labelAnswer kind edition code
 label-answers κs kind edition code r t h = h
@@ -40,6 +43,14 @@ meter-pixel-answers κs s p r t h = h
 pub image-check-answers : (κs s width height stride y cb cr r t : _) → image-check.Post κs (s, (width, (height, (stride, (y, (cb, (cr, tt))))))) r t
     → r ≡ imageAnswer s (picture width height stride (now y) (now cb) (now cr))
 image-check-answers κs s width height stride y cb cr r t h = h
+
+pub judge-forward-answers : (κs s size r g b y cb cr x t : _) → judge-forward.Post κs (s, (size, (r, (g, (b, (y, (cb, (cr, tt)))))))) x t
+    → x ≡ judgement Forward s (inputPicture size (now r) (now g) (now b)) (claimedPicture size (now y) (now cb) (now cr))
+judge-forward-answers κs s size r g b y cb cr x t h = h
+
+pub judge-reverse-answers : (κs s size y cb cr r g b x t : _) → judge-reverse.Post κs (s, (size, (y, (cb, (cr, (r, (g, (b, tt)))))))) x t
+    → x ≡ judgement Reverse s (inputPicture size (now y) (now cb) (now cr)) (claimedPicture size (now r) (now g) (now b))
+judge-reverse-answers κs s size y cb cr r g b x t h = h
 
 -- a frame call says what it leaves in its three output planes too
 pub forward-frame-answers : (κs s size r g b y cb cr x t : _) → forward-frame.Post κs (s, (size, (r, (g, (b, (y, (cb, (cr, tt)))))))) x t

@@ -1,6 +1,7 @@
 -- The exports of the other calls: a setting and a pixel come in as single numbers, and an answer goes out packed. Each law follows what a
 -- call's numbers were found to be, one after the other, so that no export has to look for the way itself.
 use mathlib.Core.Path.{_≡_, ap, _∙_}
+use mathlib.Core.List.{List}
 use Prim.Native.Nat.{ℕ}
 use lib.Ieee.{Float}
 use Rattle.sample.specs.declared.Pixel.{Pixel}
@@ -11,9 +12,13 @@ use Rattle.meter.specs.declared.SampleKind.{SampleKind}
 use Rattle.planes.specs.Picture.{Picture}
 use Rattle.image_check.specs.Image.{imageAnswer}
 use Rattle.image_check.specs.declared.ImageAnswer.{ImageAnswer}
-use Rattle.corkplover.specs.After.{ReadingAfter, LevelsAfter}
+use Rattle.frame.specs.Frame.{inputPicture}
+use Rattle.frame.specs.declared.Size.{Size}
+use Rattle.judge.specs.Judge.{claimedPicture, judgement}
+use Rattle.judge.specs.declared.Judgement.{Judgement}
+use Rattle.corkplover.specs.After.{ReadingAfter, LevelsAfter, JudgementAfter}
 use Rattle.corkplover.specs.Answers.{pixelAnswer, reading, levelsAnswer}
-use Rattle.corkplover.specs.Packing.{packedPixel, packedReading, levelIn, packedLevels, levelsIn, yIn, cbIn, crIn, packedImage}
+use Rattle.corkplover.specs.Packing.{packedPixel, packedReading, levelIn, packedLevels, levelsIn, yIn, cbIn, crIn, packedImage, packedJudgement, wrongIn}
 use Rattle.corkplover.specs.declared.meters.LevelsAnswer.{LevelsAnswer}
 use Rattle.corkplover.specs.declared.meters.Reading.{Reading}
 use Rattle.corkplover.specs.declared.pixels.PixelAnswer.{PixelAnswer}
@@ -36,3 +41,11 @@ levels-exported {s} {t} {p} {q} {a} e f g h k =
 
 pub image-exported : (a : Picture) {s t : Setting} {r : ImageAnswer} {x : ℕ} → s ≡ t → r ≡ imageAnswer s a → x ≡ packedImage r → x ≡ packedImage (imageAnswer t a)
 image-exported a e f g = g ∙ ap packedImage (f ∙ ap (λ z. imageAnswer z a) e)
+
+pub judgement-exported : (w : Way) (a0 a1 a2 b0 b1 b2 : List ℕ) {s t : Setting} {z u : Size} {r : Judgement} {n x : ℕ} → s ≡ t → z ≡ u
+    → r ≡ judgement w s (inputPicture z a0 a1 a2) (claimedPicture z b0 b1 b2) → n ≡ wrongIn r → x ≡ packedJudgement r
+    → JudgementAfter w t u a0 a1 a2 b0 b1 b2 x n
+judgement-exported w a0 a1 a2 b0 b1 b2 {s} {t} {z} {u} {r} e f g h k =
+    let answers : r ≡ judgement w t (inputPicture u a0 a1 a2) (claimedPicture u b0 b1 b2) =
+    g ∙ (λ i. judgement w (e i) (inputPicture (f i) a0 a1 a2) (claimedPicture (f i) b0 b1 b2)) in
+    (k ∙ ap packedJudgement answers, h ∙ ap wrongIn answers)

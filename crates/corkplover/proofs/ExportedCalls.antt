@@ -6,7 +6,7 @@ use Rattle.setting.specs.declared.Way.the-variants.{Forward, Reverse}
 use Rattle.meter.specs.declared.SampleKind.the-variants.{Y, Cb, Cr}
 use Rattle.planes.specs.Picture.{picture}
 use Rattle.image_check.specs.Image.{imageAnswer}
-use Rattle.corkplover.specs.After.{ReadingAfter, LevelsAfter, FrameExportAfter}
+use Rattle.corkplover.specs.After.{ReadingAfter, LevelsAfter, FrameExportAfter, JudgementAfter}
 use Rattle.corkplover.specs.Answers.{labelAnswer, pixelAnswer}
 use Rattle.corkplover.specs.Packing.{settingIn, pixelFrom, sizes, packedLabel, packedPixel, packedImage}
 use Rattle.corkplover.proofs.exports.corkplover_primaries_label.Reads as primaries-label
@@ -21,6 +21,8 @@ use Rattle.corkplover.proofs.exports.corkplover_meter_pixel.Reads as me
 use Rattle.corkplover.proofs.frame_exports.corkplover_forward_frame.Reads as forward-frame
 use Rattle.corkplover.proofs.frame_exports.corkplover_reverse_frame.Reads as reverse-frame
 use Rattle.corkplover.proofs.frame_exports.corkplover_image_check.Reads as image-check
+use Rattle.corkplover.proofs.judge_exports.corkplover_judge_forward.Reads as judge-forward
+use Rattle.corkplover.proofs.judge_exports.corkplover_judge_reverse.Reads as judge-reverse
 
 pub corkplover-primaries-label-answers : (κs edition code x t : _) → primaries-label.Post κs (edition, (code, tt)) x t
     → x ≡ packedLabel (labelAnswer Primaries edition code)
@@ -72,3 +74,13 @@ corkplover-reverse-frame-answers κs word width height sourcestride outputstride
 pub corkplover-image-check-answers : (κs word width height stride y cb cr x t : _) → image-check.Post κs (word, (width, (height, (stride, (y, (cb, (cr, tt))))))) x t
     → x ≡ packedImage (imageAnswer (settingIn word) (picture width height stride (now y) (now cb) (now cr)))
 corkplover-image-check-answers κs word width height stride y cb cr x t h = h
+
+pub corkplover-judge-forward-answers : (κs word width height sourcestride claimedstride r g b y cb cr wrong x t : _)
+    → judge-forward.Post κs (word, (width, (height, (sourcestride, (claimedstride, (r, (g, (b, (y, (cb, (cr, (wrong, tt)))))))))))) x t
+    → JudgementAfter Forward (settingIn word) (sizes width height sourcestride claimedstride) (now r) (now g) (now b) (now y) (now cb) (now cr) x (now (t .1 .1 .1 .1 .1 .1 .1 .1 .1 .1 .1 .0))
+corkplover-judge-forward-answers κs word width height sourcestride claimedstride r g b y cb cr wrong x t h = h
+
+pub corkplover-judge-reverse-answers : (κs word width height sourcestride claimedstride y cb cr r g b wrong x t : _)
+    → judge-reverse.Post κs (word, (width, (height, (sourcestride, (claimedstride, (y, (cb, (cr, (r, (g, (b, (wrong, tt)))))))))))) x t
+    → JudgementAfter Reverse (settingIn word) (sizes width height sourcestride claimedstride) (now y) (now cb) (now cr) (now r) (now g) (now b) x (now (t .1 .1 .1 .1 .1 .1 .1 .1 .1 .1 .1 .0))
+corkplover-judge-reverse-answers κs word width height sourcestride claimedstride y cb cr r g b wrong x t h = h

@@ -10,8 +10,9 @@ use Rattle.meter.specs.declared.SampleKind.{SampleKind}
 use Rattle.setting.specs.declared.Way.{Way}
 use Rattle.frame.specs.Frame.{inputPicture, outputLayout, frameAnswer, PlanesAfter}
 use Rattle.frame.specs.declared.Size.{Size}
+use Rattle.judge.specs.Judge.{claimedPicture, judgement}
 use Rattle.corkplover.specs.Answers.{reading, levelsAnswer}
-use Rattle.corkplover.specs.Packing.{packedReading, levelIn, packedLevels, yIn, cbIn, crIn, packedFrame}
+use Rattle.corkplover.specs.Packing.{packedReading, levelIn, packedLevels, yIn, cbIn, crIn, packedFrame, packedJudgement, wrongIn}
 
 -- a meter's call on one sample, and on a pixel
 abbrev pub ReadingAfter : SampleKind → Setting → ℕ → ℕ → Float → Type 0
@@ -27,3 +28,9 @@ FrameExportAfter way s size a0 a1 a2 b0 b1 b2 x p0 p1 p2 =
     let input = inputPicture size a0 a1 a2 in
     let output = outputLayout size (length b0) (length b1) (length b2) in
     (x ≡ packedFrame (frameAnswer way s input output)) × PlanesAfter way s input output p0 p1 p2
+
+-- a judgement of the planes b, with the planes a as their source, and its count
+abbrev pub JudgementAfter : Way → Setting → Size → List ℕ → List ℕ → List ℕ → List ℕ → List ℕ → List ℕ → ℕ → ℕ → Type 0
+JudgementAfter way s size a0 a1 a2 b0 b1 b2 x wrong =
+    let told = judgement way s (inputPicture size a0 a1 a2) (claimedPicture size b0 b1 b2) in
+    (x ≡ packedJudgement told) × (wrong ≡ wrongIn told)

@@ -12,6 +12,8 @@ use Rattle.frame.specs.declared.FrameAnswer.{FrameAnswer}
 use Rattle.frame.specs.declared.FrameAnswer.the-variants as frame
 use Rattle.image_check.specs.declared.ImageAnswer.{ImageAnswer}
 use Rattle.image_check.specs.declared.ImageAnswer.the-variants as image
+use Rattle.judge.specs.declared.Judgement.{Judgement}
+use Rattle.judge.specs.declared.Judgement.the-variants as judgement
 use Rattle.corkplover.specs.Packing.{numberIn, secondIn, firstIn, middleIn, lastIn}
 use Rattle.corkplover.specs.declared.pixels.PixelAnswer.{PixelAnswer}
 use Rattle.corkplover.specs.declared.pixels.PixelAnswer.the-variants as pixel
@@ -22,8 +24,8 @@ use Rattle.corkplover.specs.declared.meters.Reading.the-variants as mete
 use Rattle.corkplover.specs.declared.meters.LevelsAnswer.{LevelsAnswer}
 use Rattle.corkplover.specs.declared.meters.LevelsAnswer.the-variants as levels
 
--- the place of a 10 or of a pixel without a source, the bad sample of a 10, converted samples, levels, and the word of a source check: true
--- for yes
+-- the place of a 10, of a pixel without a source or of a claimed one that is wrong, the bad sample of a 10, converted samples, levels, the word of a
+-- source check, true for yes, and that of a judgement, true for agrees, with how many claimed pixels are wrong
 pub record Meaning : Type 0 where
   pub number : ℕ
   pub place : Place
@@ -31,19 +33,25 @@ pub record Meaning : Type 0 where
   pub samples : List ℕ
   pub levels : List Float
   pub source : List Bool
+  pub agrees : List Bool
+  pub wrong : ℕ
 
 abbrev pub meaningRefusal : Refusal → Meaning
-meaningRefusal r = record { number = r .number; place = r .place; bad = r .sample; samples = []; levels = []; source = [] }
+meaningRefusal r = record { number = r .number; place = r .place; bad = r .sample; samples = []; levels = []; source = []; agrees = []; wrong = 0 }
 
 -- of what was not refused
 abbrev pub meaningSamples : List ℕ → Meaning
-meaningSamples l = record { number = 0; place = nowhere; bad = 0; samples = l; levels = []; source = [] }
+meaningSamples l = record { number = 0; place = nowhere; bad = 0; samples = l; levels = []; source = []; agrees = []; wrong = 0 }
 
 abbrev pub meaningLevels : List Float → Meaning
-meaningLevels l = record { number = 0; place = nowhere; bad = 0; samples = []; levels = l; source = [] }
+meaningLevels l = record { number = 0; place = nowhere; bad = 0; samples = []; levels = l; source = []; agrees = []; wrong = 0 }
 
 abbrev pub meaningSource : Bool → Place → Meaning
-meaningSource word place = record { number = 0; place = place; bad = 0; samples = []; levels = []; source = word ∷ [] }
+meaningSource word place = record { number = 0; place = place; bad = 0; samples = []; levels = []; source = word ∷ []; agrees = []; wrong = 0 }
+
+abbrev pub meaningJudged : Bool → Place → ℕ → Meaning
+meaningJudged word place n =
+    record { number = 0; place = place; bad = 0; samples = []; levels = []; source = []; agrees = word ∷ []; wrong = n }
 
 abbrev pub meaningOfPixel : PixelAnswer → Meaning
 meaningOfPixel (pixel.Converted p) = meaningSamples (p .p0 ∷ p .p1 ∷ p .p2 ∷ [])
@@ -75,6 +83,11 @@ meaningOfImage image.Yes = meaningSource true nowhere
 meaningOfImage (image.NoSource place) = meaningSource false place
 meaningOfImage (image.Refused r) = meaningRefusal r
 
+abbrev pub meaningOfJudgement : Judgement → Meaning
+meaningOfJudgement judgement.Agrees = meaningJudged true nowhere 0
+meaningOfJudgement (judgement.Differs place n) = meaningJudged false place n
+meaningOfJudgement (judgement.Refused r) = meaningRefusal r
+
 -- ---- the numbers that callers from other languages see, and what they find behind their pointers
 
 abbrev pub refusalIn : ℕ → Refusal
@@ -99,3 +112,7 @@ meaningInFrame x = meaningUnless x meaningDone
 -- bits 8 to 15 are 0 for a yes
 abbrev pub meaningInImage : ℕ → Meaning
 meaningInImage x = meaningUnless x (meaningSource (eqb (secondIn x) 0) (at 0 (firstIn x) (middleIn x)))
+
+-- and for agrees
+abbrev pub meaningInJudgement : ℕ → ℕ → Meaning
+meaningInJudgement x n = meaningUnless x (meaningJudged (eqb (secondIn x) 0) (at 0 (firstIn x) (middleIn x)) n)

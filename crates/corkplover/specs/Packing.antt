@@ -16,6 +16,8 @@ use Rattle.frame.specs.declared.FrameAnswer.{FrameAnswer}
 use Rattle.frame.specs.declared.FrameAnswer.the-variants as frame
 use Rattle.image_check.specs.declared.ImageAnswer.{ImageAnswer}
 use Rattle.image_check.specs.declared.ImageAnswer.the-variants as image
+use Rattle.judge.specs.declared.Judgement.{Judgement}
+use Rattle.judge.specs.declared.Judgement.the-variants as judgement
 use Rattle.corkplover.specs.declared.labels.LabelAnswer.{LabelAnswer}
 use Rattle.corkplover.specs.declared.labels.LabelAnswer.the-variants as label
 use Rattle.corkplover.specs.declared.pixels.PixelAnswer.{PixelAnswer}
@@ -126,6 +128,17 @@ abbrev pub packedImage : ImageAnswer → ℕ
 packedImage image.Yes = 0
 packedImage (image.NoSource place) = packed 0 1 (place .row) (place .column) 0
 packedImage (image.Refused r) = packedRefusal r
+
+-- a judgement likewise, 0 for agrees and 1 for differs; its count goes where the caller said, and is 0 where there is nothing to count
+abbrev pub packedJudgement : Judgement → ℕ
+packedJudgement judgement.Agrees = 0
+packedJudgement (judgement.Differs place n) = packed 0 1 (place .row) (place .column) 0
+packedJudgement (judgement.Refused r) = packedRefusal r
+
+abbrev pub wrongIn : Judgement → ℕ
+wrongIn judgement.Agrees = 0
+wrongIn (judgement.Differs place n) = n
+wrongIn (judgement.Refused r) = 0
 
 -- a label is a byte: its own number, or that of the refusal
 abbrev pub packedLabel : LabelAnswer → ℕ

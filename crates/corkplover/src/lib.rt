@@ -2,6 +2,8 @@
 pub mod exports;
 pub mod frame_exports;
 pub mod frames;
+pub mod judge_exports;
+pub mod judging;
 pub mod labels;
 pub mod meters;
 mod packing;

@@ -1,7 +1,7 @@
 // Settings and answers as one number each, for callers in other languages.
 ghost use mathlib.Core.Path.{_≡_};
 ghost use Rattle.setting.specs.Label.{labelNumber};
-ghost use Rattle.corkplover.specs.Packing.{packed, packedLabel, packedRefusal, packedPixel, packedReading, packedLevels, levelIn, levelsIn, packedFrame, packedImage, settingIn, pixelFrom, sizes};
+ghost use Rattle.corkplover.specs.Packing.{packed, packedLabel, packedRefusal, packedPixel, packedReading, packedLevels, levelIn, levelsIn, packedFrame, packedImage, packedJudgement, wrongIn, settingIn, pixelFrom, sizes};
 use crate::labels::LabelAnswer;
 use crate::meters::LevelsAnswer;
 use crate::meters::Reading;
@@ -9,6 +9,7 @@ use crate::pixels::PixelAnswer;
 use frame::FrameAnswer;
 use frame::Size;
 use image_check::ImageAnswer;
+use judge::Judgement;
 use meter::PixelLevels;
 use refusal::Refusal;
 use sample::Pixel;
@@ -127,6 +128,27 @@ pub fn pack_image(answer: ImageAnswer) -> u64
         ImageAnswer::Yes => 0,
         ImageAnswer::NoSource(place) => pack(0, 1, place.row, place.column, 0),
         ImageAnswer::Refused(refusal) => pack_refusal(refusal),
+    }
+}
+
+// The same of a judgement, whose count stands beside it.
+pub fn pack_judgement(answer: Judgement) -> u64
+    ensures { λ r. ⌜ r ≡ packedJudgement answer ⌝ }
+{
+    match answer {
+        Judgement::Agrees => 0,
+        Judgement::Differs(place, _) => pack(0, 1, place.row, place.column, 0),
+        Judgement::Refused(refusal) => pack_refusal(refusal),
+    }
+}
+
+pub fn wrong_in(answer: Judgement) -> u64
+    ensures { λ r. ⌜ r ≡ wrongIn answer ⌝ }
+{
+    match answer {
+        Judgement::Agrees => 0,
+        Judgement::Differs(_, wrong) => wrong,
+        Judgement::Refused(_) => 0,
     }
 }
 

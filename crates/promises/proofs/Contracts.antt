@@ -12,6 +12,8 @@ use Rattle.corkplover.proofs.meters.meter_pixel.Reads as meter-pixel
 use Rattle.corkplover.proofs.frames.image_check.Reads as image-check
 use Rattle.corkplover.proofs.frames.forward_frame.Reads as forward-frame
 use Rattle.corkplover.proofs.frames.reverse_frame.Reads as reverse-frame
+use Rattle.corkplover.proofs.judging.judge_forward.Reads as judge-forward
+use Rattle.corkplover.proofs.judging.judge_reverse.Reads as judge-reverse
 use Rattle.promises.proofs.Once.{once, once-all}
 
 pub label-asks-nothing : (κs : _) (a : _) → label.Pre κs a
@@ -73,3 +75,15 @@ pub reverse-frame-once : (κs : _) (a : _) (r r' : _) (s s' : _) → reverse-fra
     let t' = s' .1 .1 .1 .1 .1 in
     (r ≡ r') × ((now (t .0) ≡ now (t' .0)) × ((now (t .1 .0) ≡ now (t' .1 .0)) × (now (t .1 .1 .0) ≡ now (t' .1 .1 .0))))
 reverse-frame-once κs a r r' s s' = once-all
+
+pub judge-forward-asks-nothing : (κs : _) (a : _) → judge-forward.Pre κs a
+judge-forward-asks-nothing κs a = tt
+
+pub judge-forward-once : (κs : _) (a : _) (r r' : _) (s s' : _) → judge-forward.Post κs a r s → judge-forward.Post κs a r' s' → r ≡ r'
+judge-forward-once κs a r r' s s' = once
+
+pub judge-reverse-asks-nothing : (κs : _) (a : _) → judge-reverse.Pre κs a
+judge-reverse-asks-nothing κs a = tt
+
+pub judge-reverse-once : (κs : _) (a : _) (r r' : _) (s s' : _) → judge-reverse.Post κs a r s → judge-reverse.Post κs a r' s' → r ≡ r'
+judge-reverse-once κs a r r' s s' = once

@@ -23,11 +23,12 @@ use Rattle.planes.specs.declared.size.Layout.{Layout}
 use Rattle.admit.specs.Rules.{callRules, callAdmission}
 use Rattle.frame.specs.Frame.{frameBy, frameAnswer, planeBy, lengthOf, outPlane}
 use Rattle.image_check.specs.Image.{imageBy, imageAnswer}
+use Rattle.judge.specs.Judge.{judgeBy, judgement}
 use Rattle.corkplover.specs.Answers.{convertedBy, pixelAnswer, sourceBy, sourceAnswer, readBy, reading, levelsReadBy, levelsAnswer}
-use Rattle.corkplover.specs.Meaning.{Meaning, meaningOfPixel, meaningOfSource, meaningOfReading, meaningOfLevels, meaningOfFrame, meaningOfImage}
+use Rattle.corkplover.specs.Meaning.{Meaning, meaningOfPixel, meaningOfSource, meaningOfReading, meaningOfLevels, meaningOfFrame, meaningOfImage, meaningOfJudgement}
 use Rattle.promises.specs.Editions.{SameOrRefused, SamePlanesOrRefused}
 use Rattle.promises.specs.Refusing.{Refuses}
-use Rattle.promises.proofs.Refusing.{none-admitted, none-accepted, pixel-refuses, source-refuses, reading-refuses, levels-refuses, frame-refuses, image-refuses}
+use Rattle.promises.proofs.Refusing.{none-admitted, none-accepted, pixel-refuses, source-refuses, reading-refuses, levels-refuses, frame-refuses, image-refuses, judgement-refuses}
 
 -- ---- of any call: who is let in by both editions is let in as the same
 
@@ -100,3 +101,9 @@ frame-in-editions w s n a b e =
     let plane : ℕ → Admission → List ℕ = λ k v. planeBy v k w a (b .stride) (lengthOf k b) in
     ⊎-elim (λ f. inl (ap (λ v. meaningOfFrame (frameBy v)) f, (ap (plane 0) f, (ap (plane 1) f, ap (plane 2) f)))) inr
     (admitted-alike (λ v. meaningOfFrame (frameBy v)) (call.Convert w) s n _ _ _ _ (frame-refuses w s a b) (frame-refuses w (inEdition n s) a b) e)
+
+pub judgement-in-editions : (w : Way) (s : Setting) (n : ℕ) (a b : Picture)
+    → SameOrRefused (meaningOfJudgement (judgement w s a b)) (meaningOfJudgement (judgement w (inEdition n s) a b))
+unfolding judgement
+judgement-in-editions w s n a b =
+    same-or-refused (λ v. meaningOfJudgement (judgeBy v w a b)) (call.Convert w) s n _ _ _ _ (judgement-refuses w s a b) (judgement-refuses w (inEdition n s) a b)

@@ -13,6 +13,8 @@ use Rattle.corkplover.proofs.exports.corkplover_meter_cr.Reads as corkplover-me
 use Rattle.corkplover.proofs.exports.corkplover_meter_pixel.Reads as corkplover-meter-pixel
 use Rattle.corkplover.proofs.frame_exports.corkplover_forward_frame.Reads as corkplover-forward-frame
 use Rattle.corkplover.proofs.frame_exports.corkplover_reverse_frame.Reads as corkplover-reverse-frame
+use Rattle.corkplover.proofs.judge_exports.corkplover_judge_forward.Reads as corkplover-judge-forward
+use Rattle.corkplover.proofs.judge_exports.corkplover_judge_reverse.Reads as corkplover-judge-reverse
 use Rattle.promises.proofs.Once.{once, once-both, once-all}
 
 pub corkplover-primaries-label-asks-nothing : (κs : _) (a : _) → corkplover-primaries-label.Pre κs a
@@ -104,3 +106,21 @@ pub corkplover-reverse-frame-once : (κs : _) (a : _) (r r' : _) (s s' : _) → 
     let t' = s' .1 .1 .1 .1 .1 .1 .1 .1 in
     (r ≡ r') × ((now (t .0) ≡ now (t' .0)) × ((now (t .1 .0) ≡ now (t' .1 .0)) × (now (t .1 .1 .0) ≡ now (t' .1 .1 .0))))
 corkplover-reverse-frame-once κs a r r' s s' = once-all
+
+pub corkplover-judge-forward-asks-nothing : (κs : _) (a : _) → corkplover-judge-forward.Pre κs a
+corkplover-judge-forward-asks-nothing κs a = tt
+
+pub corkplover-judge-forward-once : (κs : _) (a : _) (r r' : _) (s s' : _) → corkplover-judge-forward.Post κs a r s → corkplover-judge-forward.Post κs a r' s'
+    → let t = s .1 .1 .1 .1 .1 .1 .1 .1 .1 .1 .1 in
+    let t' = s' .1 .1 .1 .1 .1 .1 .1 .1 .1 .1 .1 in
+    (r ≡ r') × (now (t .0) ≡ now (t' .0))
+corkplover-judge-forward-once κs a r r' s s' = once-both
+
+pub corkplover-judge-reverse-asks-nothing : (κs : _) (a : _) → corkplover-judge-reverse.Pre κs a
+corkplover-judge-reverse-asks-nothing κs a = tt
+
+pub corkplover-judge-reverse-once : (κs : _) (a : _) (r r' : _) (s s' : _) → corkplover-judge-reverse.Post κs a r s → corkplover-judge-reverse.Post κs a r' s'
+    → let t = s .1 .1 .1 .1 .1 .1 .1 .1 .1 .1 .1 in
+    let t' = s' .1 .1 .1 .1 .1 .1 .1 .1 .1 .1 .1 in
+    (r ≡ r') × (now (t .0) ≡ now (t' .0))
+corkplover-judge-reverse-once κs a r r' s s' = once-both

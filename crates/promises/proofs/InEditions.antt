@@ -11,8 +11,8 @@ use Rattle.planes.specs.Picture.{Picture, picture}
 use Rattle.planes.specs.declared.size.Layout.{Layout}
 use Rattle.frame.specs.Frame.{inputPicture, outputLayout, FrameAfter}
 use Rattle.frame.specs.declared.FrameAnswer.{FrameAnswer}
-use Rattle.corkplover.specs.Meaning.{meaningOfPixel, meaningOfSource, meaningOfReading, meaningOfLevels, meaningOfFrame, meaningOfImage}
-use Rattle.corkplover.proofs.Calls.{forward-pixel-answers, reverse-pixel-answers, source-pixel-answers, meter-sample-answers, meter-pixel-answers, image-check-answers, forward-frame-answers, reverse-frame-answers}
+use Rattle.corkplover.specs.Meaning.{meaningOfPixel, meaningOfSource, meaningOfReading, meaningOfLevels, meaningOfFrame, meaningOfImage, meaningOfJudgement}
+use Rattle.corkplover.proofs.Calls.{forward-pixel-answers, reverse-pixel-answers, source-pixel-answers, meter-sample-answers, meter-pixel-answers, image-check-answers, forward-frame-answers, reverse-frame-answers, judge-forward-answers, judge-reverse-answers}
 use Rattle.corkplover.proofs.pixels.forward_pixel.Reads as forward-pixel
 use Rattle.corkplover.proofs.pixels.reverse_pixel.Reads as reverse-pixel
 use Rattle.corkplover.proofs.pixels.source_pixel.Reads as source-pixel
@@ -21,8 +21,10 @@ use Rattle.corkplover.proofs.meters.meter_pixel.Reads as meter-pixel
 use Rattle.corkplover.proofs.frames.image_check.Reads as image-check
 use Rattle.corkplover.proofs.frames.forward_frame.Reads as forward-frame
 use Rattle.corkplover.proofs.frames.reverse_frame.Reads as reverse-frame
+use Rattle.corkplover.proofs.judging.judge_forward.Reads as judge-forward
+use Rattle.corkplover.proofs.judging.judge_reverse.Reads as judge-reverse
 use Rattle.promises.specs.Editions.{SameOrRefused, SamePlanesOrRefused}
-use Rattle.promises.proofs.Editions.{pixel-in-editions, source-in-editions, reading-in-editions, levels-in-editions, image-in-editions, frame-in-editions}
+use Rattle.promises.proofs.Editions.{pixel-in-editions, source-in-editions, reading-in-editions, levels-in-editions, image-in-editions, frame-in-editions, judgement-in-editions}
 
 pub forward-pixel-in-editions : (κs κs' s n p r r' t t' : _) → forward-pixel.Post κs (s, (p, tt)) r t → forward-pixel.Post κs' (inEdition n s, (p, tt)) r' t'
     → SameOrRefused (meaningOfPixel r) (meaningOfPixel r')
@@ -80,3 +82,13 @@ pub reverse-frame-in-editions : (κs κs' s n size y cb cr r g b x x' t t' : _) 
 reverse-frame-in-editions κs κs' s n size y cb cr r g b x x' t t' h h' =
     frames-in Reverse s n (inputPicture size (now y) (now cb) (now cr)) (outputLayout size (length (now r)) (length (now g)) (length (now b)))
     (reverse-frame-answers κs s size y cb cr r g b x t h) (reverse-frame-answers κs' (inEdition n s) size y cb cr r g b x' t' h')
+
+pub judge-forward-in-editions : (κs κs' s n size r g b y cb cr x x' t t' : _) → judge-forward.Post κs (s, (size, (r, (g, (b, (y, (cb, (cr, tt)))))))) x t
+    → judge-forward.Post κs' (inEdition n s, (size, (r, (g, (b, (y, (cb, (cr, tt)))))))) x' t' → SameOrRefused (meaningOfJudgement x) (meaningOfJudgement x')
+judge-forward-in-editions κs κs' s n size r g b y cb cr x x' t t' h h' =
+    rw (judge-forward-answers κs s size r g b y cb cr x t h, judge-forward-answers κs' (inEdition n s) size r g b y cb cr x' t' h') (judgement-in-editions Forward s n _ _)
+
+pub judge-reverse-in-editions : (κs κs' s n size y cb cr r g b x x' t t' : _) → judge-reverse.Post κs (s, (size, (y, (cb, (cr, (r, (g, (b, tt)))))))) x t
+    → judge-reverse.Post κs' (inEdition n s, (size, (y, (cb, (cr, (r, (g, (b, tt)))))))) x' t' → SameOrRefused (meaningOfJudgement x) (meaningOfJudgement x')
+judge-reverse-in-editions κs κs' s n size y cb cr r g b x x' t t' h h' =
+    rw (judge-reverse-answers κs s size y cb cr r g b x t h, judge-reverse-answers κs' (inEdition n s) size y cb cr r g b x' t' h') (judgement-in-editions Reverse s n _ _)

@@ -16,11 +16,12 @@ use Rattle.planes.specs.Picture.{picture}
 use Rattle.frame.specs.Frame.{inputPicture, outputLayout}
 use Rattle.frame.specs.declared.Size.{Size}
 use Rattle.image_check.specs.Image.{imageAnswer}
-use Rattle.corkplover.specs.After.{ReadingAfter, LevelsAfter, FrameExportAfter}
+use Rattle.judge.specs.Judge.{claimedPicture}
+use Rattle.corkplover.specs.After.{ReadingAfter, LevelsAfter, FrameExportAfter, JudgementAfter}
 use Rattle.corkplover.specs.Answers.{pixelAnswer}
-use Rattle.corkplover.specs.Meaning.{meaningInPixel, meaningInReading, meaningInLevels, meaningInFrame, meaningInImage}
+use Rattle.corkplover.specs.Meaning.{meaningInPixel, meaningInReading, meaningInLevels, meaningInFrame, meaningInImage, meaningInJudgement}
 use Rattle.corkplover.specs.Packing.{settingIn, pixelFrom, sizes, packedPixel, packedImage}
-use Rattle.corkplover.proofs.ExportedCalls.{corkplover-forward-pixel-answers, corkplover-reverse-pixel-answers, corkplover-meter-y-answers, corkplover-meter-cb-answers, corkplover-meter-cr-answers, corkplover-meter-pixel-answers, corkplover-forward-frame-answers, corkplover-reverse-frame-answers, corkplover-image-check-answers}
+use Rattle.corkplover.proofs.ExportedCalls.{corkplover-forward-pixel-answers, corkplover-reverse-pixel-answers, corkplover-meter-y-answers, corkplover-meter-cb-answers, corkplover-meter-cr-answers, corkplover-meter-pixel-answers, corkplover-forward-frame-answers, corkplover-reverse-frame-answers, corkplover-image-check-answers, corkplover-judge-forward-answers, corkplover-judge-reverse-answers}
 use Rattle.corkplover.proofs.exports.corkplover_forward_pixel.Reads as forward-pixel
 use Rattle.corkplover.proofs.exports.corkplover_reverse_pixel.Reads as reverse-pixel
 use Rattle.corkplover.proofs.exports.corkplover_meter_y.Reads as meter-y
@@ -30,9 +31,11 @@ use Rattle.corkplover.proofs.exports.corkplover_meter_pixel.Reads as meter-pixe
 use Rattle.corkplover.proofs.frame_exports.corkplover_forward_frame.Reads as forward-frame
 use Rattle.corkplover.proofs.frame_exports.corkplover_reverse_frame.Reads as reverse-frame
 use Rattle.corkplover.proofs.frame_exports.corkplover_image_check.Reads as image-check
+use Rattle.corkplover.proofs.judge_exports.corkplover_judge_forward.Reads as judge-forward
+use Rattle.corkplover.proofs.judge_exports.corkplover_judge_reverse.Reads as judge-reverse
 use Rattle.promises.specs.Editions.{SameOrRefused, SamePlanesOrRefused}
-use Rattle.promises.proofs.Editions.{pixel-in-editions, reading-in-editions, levels-in-editions, image-in-editions, frame-in-editions}
-use Rattle.promises.proofs.Unpacked.{pixel-unpacked, reading-unpacked, levels-unpacked, frame-unpacked, image-unpacked}
+use Rattle.promises.proofs.Editions.{pixel-in-editions, reading-in-editions, levels-in-editions, image-in-editions, frame-in-editions, judgement-in-editions}
+use Rattle.promises.proofs.Unpacked.{pixel-unpacked, reading-unpacked, levels-unpacked, frame-unpacked, image-unpacked, judgement-unpacked}
 
 -- ---- each kind of call, where t is s in the edition of number n
 
@@ -79,6 +82,17 @@ module _ (s t : Setting) (n : ℕ) (other : t ≡ inEdition n s) where
         k .1 .1 .1,
         other,
       ) (frame-in-editions w s n a b)
+
+  judgements-in : (w : Way) (z : Size) (a0 a1 a2 b0 b1 b2 : List ℕ) {x x' k k' : ℕ} → JudgementAfter w s z a0 a1 a2 b0 b1 b2 x k
+      → JudgementAfter w t z a0 a1 a2 b0 b1 b2 x' k' → SameOrRefused (meaningInJudgement x k) (meaningInJudgement x' k')
+  judgements-in w z a0 a1 a2 b0 b1 b2 h h' =
+      let a = inputPicture z a0 a1 a2 in
+      let b = claimedPicture z b0 b1 b2 in
+      rw (
+        (λ i. meaningInJudgement (h .0 i) (h .1 i)) ∙ judgement-unpacked w s a b,
+        (λ i. meaningInJudgement (h' .0 i) (h' .1 i)) ∙ judgement-unpacked w t a b,
+        other,
+      ) (judgement-in-editions w s n a b)
 
 -- ---- each export
 
@@ -149,3 +163,21 @@ corkplover-reverse-frame-in-editions κs κs' word word' n width height from to 
     frames-in (settingIn word) (settingIn word') n other Reverse (sizes width height from to) (now y) (now cb) (now cr) (now r) (now g) (now b)
     (corkplover-reverse-frame-answers κs word width height from to y cb cr r g b x t h)
     (corkplover-reverse-frame-answers κs' word' width height from to y cb cr r g b x' t' h')
+
+pub corkplover-judge-forward-in-editions : (κs κs' word word' n width height from to r g b y cb cr wrong x x' t t' : _) → settingIn word' ≡ inEdition n (settingIn word)
+    → judge-forward.Post κs (word, (width, (height, (from, (to, (r, (g, (b, (y, (cb, (cr, (wrong, tt)))))))))))) x t
+    → judge-forward.Post κs' (word', (width, (height, (from, (to, (r, (g, (b, (y, (cb, (cr, (wrong, tt)))))))))))) x' t'
+    → SameOrRefused (meaningInJudgement x (now (t .1 .1 .1 .1 .1 .1 .1 .1 .1 .1 .1 .0))) (meaningInJudgement x' (now (t' .1 .1 .1 .1 .1 .1 .1 .1 .1 .1 .1 .0)))
+corkplover-judge-forward-in-editions κs κs' word word' n width height from to r g b y cb cr wrong x x' t t' other h h' =
+    judgements-in (settingIn word) (settingIn word') n other Forward (sizes width height from to) (now r) (now g) (now b) (now y) (now cb) (now cr)
+    (corkplover-judge-forward-answers κs word width height from to r g b y cb cr wrong x t h)
+    (corkplover-judge-forward-answers κs' word' width height from to r g b y cb cr wrong x' t' h')
+
+pub corkplover-judge-reverse-in-editions : (κs κs' word word' n width height from to y cb cr r g b wrong x x' t t' : _) → settingIn word' ≡ inEdition n (settingIn word)
+    → judge-reverse.Post κs (word, (width, (height, (from, (to, (y, (cb, (cr, (r, (g, (b, (wrong, tt)))))))))))) x t
+    → judge-reverse.Post κs' (word', (width, (height, (from, (to, (y, (cb, (cr, (r, (g, (b, (wrong, tt)))))))))))) x' t'
+    → SameOrRefused (meaningInJudgement x (now (t .1 .1 .1 .1 .1 .1 .1 .1 .1 .1 .1 .0))) (meaningInJudgement x' (now (t' .1 .1 .1 .1 .1 .1 .1 .1 .1 .1 .1 .0)))
+corkplover-judge-reverse-in-editions κs κs' word word' n width height from to y cb cr r g b wrong x x' t t' other h h' =
+    judgements-in (settingIn word) (settingIn word') n other Reverse (sizes width height from to) (now y) (now cb) (now cr) (now r) (now g) (now b)
+    (corkplover-judge-reverse-answers κs word width height from to y cb cr r g b wrong x t h)
+    (corkplover-judge-reverse-answers κs' word' width height from to y cb cr r g b wrong x' t' h')

@@ -6,6 +6,7 @@ pub mod Refusing
 pub mod Pixels
 pub mod Frames
 pub mod Images
+pub mod Judging
 pub mod Labels
 pub mod Lossless
 pub mod PixelPairs
@@ -21,6 +22,8 @@ pub mod Kept
 pub mod KeptExports
 pub mod Together
 pub mod TogetherExports
+pub mod JudgedTogether
+pub mod JudgedTogetherExports
 pub mod InEditions
 pub mod InEditionsExports
 pub mod Printed
@@ -30,3 +33,4 @@ pub mod WrongLevels
 pub mod WrongYCgCo
 pub mod WrongEditions
 pub mod WholeFrames
+pub mod WrongJudges

@@ -32,14 +32,16 @@ use Rattle.scan.specs.declared.Bad.the-variants as bads
 use Rattle.scan.specs.declared.Found.{Found}
 use Rattle.scan.specs.declared.Found.the-variants as found
 use Rattle.planes.specs.declared.size.Layout.{Layout}
+use Rattle.plan.specs.Conversion.{convert}
 use Rattle.plan.specs.Source.{hasSource}
 use Rattle.admit.specs.Rules.{callRules, callAdmission, pictureRules, pixelRules, sampleRules, pixelPicture}
 use Rattle.admit.proofs.Accepted.{Accepted, accepted-of, of-accepted}
 use Rattle.admit.proofs.AdmitLaws.{admitted-passed, each-answer}
 use Rattle.frame.specs.Frame.{frameBy, frameAnswer}
 use Rattle.image_check.specs.Image.{firstFailing, answerFound, imageBy, imageAnswer}
+use Rattle.judge.specs.Judge.{firstWrong, countWrong, verdict, judgeBy, judgement}
 use Rattle.corkplover.specs.Answers.{convertedBy, pixelAnswer, sourceBy, sourceAnswer, readBy, reading, levelsReadBy, levelsAnswer}
-use Rattle.corkplover.specs.Meaning.{Meaning, meaningRefusal, meaningOfPixel, meaningOfSource, meaningOfReading, meaningOfLevels, meaningOfFrame, meaningOfImage}
+use Rattle.corkplover.specs.Meaning.{Meaning, meaningRefusal, meaningOfPixel, meaningOfSource, meaningOfReading, meaningOfLevels, meaningOfFrame, meaningOfImage, meaningOfJudgement}
 use Rattle.corkplover.specs.declared.pixels.SourceAnswer.the-variants as source
 use Rattle.promises.proofs.Beyond.{picture-beyond, sample-beyond}
 use Rattle.promises.specs.Refusing.{Exactly, NamesSample, Refuses, BadIn, BadPixel, BadSampleOf}
@@ -148,7 +150,7 @@ module _ (say : Admission → Meaning) (unrefused : (x : Served) → Unrefused (
               ten = λ t. absurd (eqb-false _ _ (o .not-10) t);
               not-ten = λ t. o .no-sample;
               other = λ t u. o .no-place;
-              alone = λ t. (refl, (refl, refl));
+              alone = λ t. (refl, (refl, (refl, (refl, refl))));
             })
 
         named : Names (callAdmission c s sizes bad)
@@ -162,7 +164,7 @@ module _ (say : Admission → Meaning) (unrefused : (x : Served) → Unrefused (
               ten = λ t. means place v g;
               not-ten = λ t. absurd (t refl);
               other = λ t u. absurd (u refl);
-              alone = λ t. (refl, (refl, refl));
+              alone = λ t. (refl, (refl, (refl, (refl, refl))));
             }))
             (record {
               ten = λ t. absurd (omega arith);
@@ -184,6 +186,11 @@ picked-free false = (refl, refl)
 found-free : (f : Found) → Unrefused (meaningOfImage (answerFound f))
 found-free (found.At place) = (refl, refl)
 found-free found.Nothing = (refl, refl)
+
+-- nor is a verdict
+verdict-free : (f : Found) (n : ℕ) → Unrefused (meaningOfJudgement (verdict f n))
+verdict-free (found.At place) n = (refl, refl)
+verdict-free found.Nothing n = (refl, refl)
 
 pub pixel-refuses : (w : Way) (s : Setting) (p : Pixel)
     → Refuses (pixelRules (call.Convert w) s p) (BadPixel (inputOf w) s p) (meaningOfPixel (pixelAnswer w s p))
@@ -222,3 +229,10 @@ unfolding imageAnswer
 image-refuses s a =
     call-refuses (λ v. meaningOfImage (imageBy v a)) (λ x. found-free (firstFailing (hasSource x) a)) (λ r. refl) call.ImageCheck s
     (sizeRules (a .width) (a .height) (layoutOf a ∷ [])) (size-others (a .width) (a .height) (layoutOf a ∷ [])) _ _ (picture-beyond Ycc s a)
+
+pub judgement-refuses : (w : Way) (s : Setting) (a b : Picture)
+    → Refuses (pictureRules (call.Convert w) s a (layoutOf b ∷ [])) (BadIn (inputOf w) s a) (meaningOfJudgement (judgement w s a b))
+unfolding judgement
+judgement-refuses w s a b =
+    call-refuses (λ v. meaningOfJudgement (judgeBy v w a b)) (λ x. verdict-free (firstWrong (convert w x) a b) (countWrong (convert w x) a b)) (λ r. refl) (call.Convert w) s
+    (sizeRules (a .width) (a .height) (layoutOf a ∷ layoutOf b ∷ [])) (size-others (a .width) (a .height) (layoutOf a ∷ layoutOf b ∷ [])) _ _ (picture-beyond (inputOf w) s a)

@@ -4,7 +4,9 @@ use mathlib.Core.Path.{_≡_, refl, ap, _∙_}
 use mathlib.Core.List.{List, [], _∷_}
 use Prim.Native.Nat.{ℕ, _<_}
 use lib.ListN.{length}
-use Rattle.planes.specs.Picture.{Picture, picture, pixelOf, sampleOf}
+use Rattle.sample.specs.declared.Pixel.{Pixel}
+use Rattle.planes.specs.Picture.{Picture, picture, layoutOf, pixelOf, sampleOf}
+use Rattle.planes.specs.Sizes.{layout}
 use Rattle.planes.specs.declared.size.Layout.{Layout}
 use Rattle.planes.proofs.PlaneTheorems.{plane-same, pixel-same}
 use Rattle.scan.proofs.Searches.{first-place-same}
@@ -23,6 +25,8 @@ use Rattle.frame.specs.Frame.{inputPicture, outputLayout, frameAdmission, frame
 use Rattle.frame.specs.declared.FrameAnswer.{FrameAnswer}
 use Rattle.frame.specs.declared.Size.{Size}
 use Rattle.image_check.specs.Image.{fails, firstFailing, answerFound, imageBy, imageAnswer}
+use Rattle.judge.specs.Judge.{differ, isWrong, verdict, judgeBy, judgement}
+use Rattle.judge.proofs.PlaceLaws.{places-same}
 use Rattle.promises.specs.Frames.{Alike}
 use Rattle.promises.proofs.Once.{once-all}
 
@@ -65,6 +69,40 @@ module _ (width height stride : ℕ) (a0 a1 a2 q0 q1 q2 : List ℕ) (e : Alike w
   pub same-image : (s : Setting) → imageAnswer s a ≡ imageAnswer s q
   unfolding imageAnswer
   same-image s = image-by-same (pictureAdmission call.ImageCheck s a []) ∙ ap (λ v. imageBy v q) (same-admission call.ImageCheck s [])
+
+-- two claimed pictures that are alike, of sources that are
+module _ (width height stride to : ℕ) (a0 a1 a2 q0 q1 q2 b0 b1 b2 p0 p1 p2 : List ℕ) (e : Alike width height stride a0 a1 a2 q0 q1 q2)
+    (g : Alike width height to b0 b1 b2 p0 p1 p2)
+  where
+    abbrev source : Picture
+    source = picture width height stride a0 a1 a2
+
+    abbrev source' : Picture
+    source' = picture width height stride q0 q1 q2
+
+    abbrev claimed : Picture
+    claimed = picture width height to b0 b1 b2
+
+    abbrev claimed' : Picture
+    claimed' = picture width height to p0 p1 p2
+
+    wrong-same : (f : Pixel → Pixel) (j i : ℕ) → j < height → i < width → isWrong f source claimed j i ≡ isWrong f source' claimed' j i
+    wrong-same f j i h l =
+        λ t. differ (f (pixels width height stride a0 a1 a2 q0 q1 q2 e j i h l t)) (pixels width height to b0 b1 b2 p0 p1 p2 g j i h l t)
+
+    judged-by-same : (w : Way) (v : Admission) → judgeBy v w source claimed ≡ judgeBy v w source' claimed'
+    judged-by-same w (admission.Admitted x) =
+        let same = wrong-same (convert w x) in
+        λ t. verdict (first-place-same _ _ 0 width height same t) (places-same _ _ width height same t)
+    judged-by-same w (admission.Refused r) = refl
+
+    pub same-judgement : (w : Way) (s : Setting) → judgement w s source claimed ≡ judgement w s source' claimed'
+    unfolding judgement
+    same-judgement w s =
+        judged-by-same w (frameAdmission w s source (layoutOf claimed))
+        ∙ ap (λ v. judgeBy v w source' claimed')
+        (same-admission width height stride a0 a1 a2 q0 q1 q2 e (call.Convert w) s (layoutOf claimed ∷ [])
+        ∙ (λ t. frameAdmission w s source' (layout to (g .first .long t) (g .second .long t) (g .third .long t))))
 
 -- what a frame call leaves, where its answer is given in one form or another
 abbrev pub Leaves : {A : Type 0} → (FrameAnswer → A) → Way → Setting → Size → (a0 a1 a2 b0 b1 b2 : List ℕ) → A → (p0 p1 p2 : List ℕ) → Type 0

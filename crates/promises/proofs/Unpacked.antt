@@ -23,6 +23,7 @@ use Rattle.scan.specs.declared.Bad.the-variants as bads
 use Rattle.scan.specs.declared.Found.{Found}
 use Rattle.scan.specs.declared.Found.the-variants as found
 use Rattle.planes.specs.declared.size.Layout.{Layout}
+use Rattle.scan.specs.First.{firstPlace, IsFirstPlace}
 use Rattle.scan.proofs.Searches.{first-place-means}
 use Rattle.planes.proofs.SizeTheorems as sizes
 use Rattle.setting.specs.Call.{inputOf}
@@ -46,9 +47,12 @@ use Rattle.admit.proofs.Accepted.{Accepted, accepted-of, inside-exactly}
 use Rattle.admit.proofs.AdmitLaws.{each-answer}
 use Rattle.frame.specs.Frame.{frameBy, frameAnswer}
 use Rattle.image_check.specs.Image.{fails, firstFailing, answerFound, imageBy, imageAnswer}
+use Rattle.judge.specs.Judge.{isWrong, firstWrong, countWrong, verdict, judgeBy, judgement}
+use Rattle.judge.specs.declared.Judgement.{Judgement}
+use Rattle.judge.specs.declared.Judgement.the-variants as judgement
 use Rattle.corkplover.specs.Answers.{convertedBy, pixelAnswer, readBy, reading, levelsReadBy, levelsAnswer}
-use Rattle.corkplover.specs.Meaning.{Meaning, meaningRefusal, meaningSamples, meaningSource, meaningUnless, meaningOfPixel, meaningOfReading, meaningOfLevels, meaningOfFrame, meaningOfImage, meaningInPixel, meaningInReading, meaningInLevels, meaningInFrame, meaningInImage}
-use Rattle.corkplover.specs.Packing.{packedRefusal, packedPixel, packedReading, levelIn, packedLevels, yIn, cbIn, crIn, packedFrame, packedImage}
+use Rattle.corkplover.specs.Meaning.{Meaning, meaningRefusal, meaningSamples, meaningSource, meaningJudged, meaningUnless, meaningOfPixel, meaningOfReading, meaningOfLevels, meaningOfFrame, meaningOfImage, meaningOfJudgement, meaningInPixel, meaningInReading, meaningInLevels, meaningInFrame, meaningInImage, meaningInJudgement}
+use Rattle.corkplover.specs.Packing.{packed, secondIn, firstIn, middleIn, packedRefusal, packedPixel, packedReading, levelIn, packedLevels, yIn, cbIn, crIn, packedFrame, packedImage, packedJudgement, wrongIn}
 use Rattle.corkplover.specs.declared.pixels.PixelAnswer.the-variants.{Converted}
 use Rattle.promises.proofs.Fields.{fields}
 use Rattle.promises.proofs.Beyond.{picture-beyond, sample-beyond}
@@ -177,14 +181,22 @@ frame-unpacked w s a b =
     call-out (λ v. meaningInFrame (packedFrame (frameBy v))) (λ v. meaningOfFrame (frameBy v)) (call.Convert w) s _
     (size-others (a .width) (a .height) (layoutOf a ∷ b ∷ [])) _ (λ r. refusal-out r _) (bad-in (inputOf w) s a (b ∷ [])) (λ k. refl)
 
--- the image check's word: yes, or a pixel inside a picture of a served size
+-- a row and a column of a picture of a served size, beside a word
+module _ (test : ℕ → ℕ → Bool) (width height : ℕ) (place : Place) (e : firstPlace test 0 width height ≡ found.At place) (h : height < 65536) (w : width < 65536) where
+  inside : IsFirstPlace (λ j i. test j i ≡ true) (λ j i. test j i ≡ false) 0 width height place
+  inside = first-place-means test 0 width height _ _ (λ j i x y. (λ q. q, λ q. q)) (λ j i x y. (λ q. q, λ q. q)) place .0 e
+
+  place-out : (m : Bool → Place → Meaning) → let x = packed 0 1 (place .row) (place .column) 0 in
+      meaningUnless x (m (eqb (secondIn x) 0) (at 0 (firstIn x) (middleIn x))) ≡ m false place
+  place-out m =
+      let f = fields 0 1 (place .row) (place .column) 0 (omega arith) (omega arith) (omega (arith, inside .row-inside)) (omega (arith, inside .column-inside)) in
+      free-means _ _ _ (ap (λ n. eqb n 0) (f .number-out))
+      ∙ (λ i. m (eqb (f .second-out i) 0) (at (sym (inside .plane-is) i) (f .first-out i) (f .middle-out i)))
+
+-- the image check's word: yes, or such a pixel
 word-out : (test : _) (a : Picture) (f : Found) → firstFailing test a ≡ f → a .height < 65536 → a .width < 65536
     → meaningInImage (packedImage (answerFound f)) ≡ meaningOfImage (answerFound f)
-word-out test a (found.At place) e h w =
-    let b = first-place-means (fails test a) 0 (a .width) (a .height) (λ j i. fails test a j i ≡ true) (λ j i. fails test a j i ≡ false) (λ j i x y. (λ q. q, λ q. q)) (λ j i x y. (λ q. q, λ q. q)) place .0 e in
-    let f = fields 0 1 (place .row) (place .column) 0 (omega arith) (omega arith) (omega (arith, b .row-inside)) (omega (arith, b .column-inside)) in
-    free-means _ _ _ (ap (λ n. eqb n 0) (f .number-out))
-    ∙ (λ i. meaningSource (eqb (f .second-out i) 0) (at (sym (b .plane-is) i) (f .first-out i) (f .middle-out i)))
+word-out test a (found.At place) e h w = place-out (fails test a) (a .width) (a .height) place e h w meaningSource
 word-out test a found.Nothing e h w = refl
 
 pub image-unpacked : (s : Setting) (a : Picture) → meaningInImage (packedImage (imageAnswer s a)) ≡ meaningOfImage (imageAnswer s a)
@@ -195,3 +207,26 @@ image-unpacked s a =
     (λ k.
     let sized = sizes.fits _ _ _ (k .sizes-pass) .0 .sized in
     word-out (hasSource (served s)) a (firstFailing (hasSource (served s)) a) refl (omega (arith, sized .height-within .to-most)) (omega (arith, sized .width-within .to-most)))
+
+-- and that of a judgement, with its count
+verdict-out : (f : Pixel → Pixel) (a b : Picture) (n : ℕ) (v : Found) → firstWrong f a b ≡ v → a .height < 65536 → a .width < 65536
+    → let r = verdict v n in meaningInJudgement (packedJudgement r) (wrongIn r) ≡ meaningOfJudgement r
+verdict-out f a b n (found.At place) e h w = place-out (isWrong f a b) (a .width) (a .height) place e h w (λ word p. meaningJudged word p n)
+verdict-out f a b n found.Nothing e h w = refl
+
+pub judgement-unpacked : (w : Way) (s : Setting) (a b : Picture)
+    → let r = judgement w s a b in meaningInJudgement (packedJudgement r) (wrongIn r) ≡ meaningOfJudgement r
+unfolding judgement
+judgement-unpacked w s a b =
+    call-out (λ v. let r = judgeBy v w a b in meaningInJudgement (packedJudgement r) (wrongIn r)) (λ v. meaningOfJudgement (judgeBy v w a b)) (call.Convert w) s _
+    (size-others (a .width) (a .height) (layoutOf a ∷ layoutOf b ∷ [])) _ (λ r. refusal-out r _) (bad-in (inputOf w) s a (layoutOf b ∷ []))
+    (λ k.
+    let sized = sizes.fits _ _ _ (k .sizes-pass) .0 .sized in
+    let f = convert w (served s) in
+    verdict-out f a b (countWrong f a b) (firstWrong f a b) refl (omega (arith, sized .height-within .to-most)) (omega (arith, sized .width-within .to-most)))
+
+-- what stands behind the pointer is the count, whatever is answered: of a refusal it is 0
+pub wrong-unpacked : (r : Judgement) → wrongIn r ≡ meaningOfJudgement r .wrong
+wrong-unpacked judgement.Agrees = refl
+wrong-unpacked (judgement.Differs place n) = refl
+wrong-unpacked (judgement.Refused r) = refl

@@ -31,7 +31,7 @@ use Rattle.image_check.specs.declared.ImageAnswer.the-variants.{Yes, NoSource}
 use Rattle.promises.proofs.Marked.{with}
 
 -- lossless code 8 at 8 bits
-abbrev setting : Setting
+abbrev pub setting : Setting
 setting = with 8 8 8 9 true true
 
 -- the three planes that a forward call leaves
@@ -39,7 +39,7 @@ abbrev left : Setting → Picture → Layout → List (List ℕ)
 left s a b = outPlane 0 Forward s a b ∷ outPlane 1 Forward s a b ∷ outPlane 2 Forward s a b ∷ []
 
 -- the rules' own frame: width 2, height 1, strides 3, and planes of four elements to be written
-abbrev input : Picture
+abbrev pub input : Picture
 input = picture 2 1 3 (255 ∷ 0 ∷ 7 ∷ []) (0 ∷ 255 ∷ 7 ∷ []) (0 ∷ 0 ∷ 7 ∷ [])
 
 abbrev output : Layout

@@ -4,5 +4,6 @@ pub mod Lossless
 pub mod Pixels
 pub mod Frames
 pub mod Images
+pub mod Judging
 pub mod Labels
 pub mod Editions

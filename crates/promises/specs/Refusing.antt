@@ -31,9 +31,9 @@ pub record Exactly (m : Meaning) (rules : List Rule) : Type 0 where
   pub accepted : m .number ≡ 0 → NoneApplies rules
   pub free : NoneApplies rules → m .number ≡ 0
 
--- no samples, no levels and no word on a source
+-- no samples, no levels, no word on a source or on what is claimed, and nothing counted
 abbrev pub GivesNothing : Meaning → Type 0
-GivesNothing m = (m .samples ≡ []) × ((m .levels ≡ []) × (m .source ≡ []))
+GivesNothing m = (m .samples ≡ []) × ((m .levels ≡ []) × ((m .source ≡ []) × ((m .agrees ≡ []) × (m .wrong ≡ 0))))
 
 -- what an answer may say beside its number, where Bad tells a first bad sample by its place and its number
 pub record NamesSample (Bad : Place → ℕ → Type 0) (m : Meaning) : Type 0 where

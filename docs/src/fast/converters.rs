@@ -1,6 +1,7 @@
 //! The box and those that it is compared with, under one signature.
 
 use crate::frame::{self, Output, Source};
+use crate::judge::{self, Difference, Judgement};
 use crate::pictures::{Read, Shape, Write};
 use crate::setting::{Refusal, Setting, Way};
 use crate::yardstick;
@@ -45,6 +46,21 @@ pub fn by_plain(s: &Setting, way: Way, shape: &Shape, from: Read, to: Write) -> 
     let source = Source { planes: from, stride: shape.source_stride };
     let mut output = Output { planes: to, stride: shape.output_stride };
     frame::convert(s, way, shape.width, shape.height, &source, &mut output)
+}
+
+/// The box's judgement of a claimed frame, which has the shape's output stride.
+pub fn judge_by_box(s: &Setting, way: Way, shape: &Shape, from: Read, claimed: Read) -> Judgement {
+    let source = cork::Source { planes: from, stride: shape.source_stride };
+    let claimed = cork::Source { planes: claimed, stride: shape.output_stride };
+    let judge = if way == Way::Forward { cork::judge_forward } else { cork::judge_reverse };
+    let found = judge(&for_box(s), shape.width, shape.height, source, claimed).map_err(refusal)?;
+    Ok(found.map(|first| Difference { row: usize::from(first.row), column: usize::from(first.column), wrong: first.wrong }))
+}
+
+pub fn judge_by_plain(s: &Setting, way: Way, shape: &Shape, from: Read, claimed: Read) -> Judgement {
+    let source = Source { planes: from, stride: shape.source_stride };
+    let claimed = Source { planes: claimed, stride: shape.output_stride };
+    judge::judge(s, way, shape.width, shape.height, &source, &claimed)
 }
 
 pub fn by_yardstick(shape: &Shape, from: Read, to: Write) -> Result<(), Refusal> {

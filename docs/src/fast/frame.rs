@@ -14,7 +14,7 @@ pub struct Output<'a> {
 }
 
 pub fn convert(s: &Setting, way: Way, width: usize, height: usize, from: &Source, to: &mut Output) -> Result<(), Refusal> {
-    match judge(s, way, width, height, from, to) {
+    match admit(s, way, width, height, from, to) {
         Ok(formulas) => {
             run(s, way, formulas, width, height, from, to);
             Ok(())
@@ -27,7 +27,7 @@ pub fn convert(s: &Setting, way: Way, width: usize, height: usize, from: &Source
 }
 
 /// Every refusal, in the order of the table.
-fn judge(s: &Setting, way: Way, width: usize, height: usize, from: &Source, to: &Output) -> Result<Formulas, Refusal> {
+fn admit(s: &Setting, way: Way, width: usize, height: usize, from: &Source, to: &Output) -> Result<Formulas, Refusal> {
     let formulas = s.formulas()?;
     let strides = width..=16_384;
     let sides = 1..=8192;

@@ -5,10 +5,13 @@
 
 mod agree;
 mod bench;
+mod claims;
 mod clock;
 mod converters;
 mod frame;
 mod jobs;
+mod judge;
+mod judging;
 mod literal;
 mod luma;
 mod measured;
@@ -18,7 +21,7 @@ mod setting;
 mod table;
 mod yardstick;
 
-use bench::{at_most, at_most_of, Bench, LARGE};
+use bench::{at_most, at_most_of, Bench, LARGE, SHAPES};
 use converters::{by_biased_yardstick, by_yardstick, check_by_box};
 use jobs::{Jobs, Ticket};
 use measured::{CODE_1, LOSSLESS};
@@ -104,8 +107,7 @@ fn other_matrices(bench: &mut Bench) -> Ticket {
     bench.row("lossless code 8, Y 8, C 9, forward", forward, None);
     let reverse = bench.box_job(LOSSLESS, Way::Reverse, LARGE, ycc.clone());
     bench.row("lossless code 8, Y 8, C 9, reverse", reverse, at_most_of(1.5, forward, "forward"));
-    let nothing_written = Shape { output_stride: 0, ..LARGE };
-    let check = bench.job(nothing_written, ycc, |shape: &Shape, from: Read, _: Write| {
+    let check = bench.job(LARGE.only_read(), ycc, |shape: &Shape, from: Read, _: Write| {
         assert!(check_by_box(&LOSSLESS, shape, from), "every pixel has a source")
     });
     bench.row("lossless code 8, Y 8, C 9, image check", check, at_most_of(4.0, forward, "forward"));
@@ -114,14 +116,7 @@ fn other_matrices(bench: &mut Bench) -> Ticket {
 
 /// Frames of other shapes, each held against the large one at its setting.
 fn shapes(bench: &mut Bench, called: &str, s: Setting, large: Ticket) {
-    let all = [
-        ("1 by 8,192", Shape::packed(1, 8192)),
-        ("8,192 by 1", Shape::packed(8192, 1)),
-        ("1,920 by 1,080, strides 2,048", Shape { source_stride: 2048, output_stride: 2048, ..LARGE }),
-        ("1,920 by 1,080, output stride 3,840", Shape { output_stride: 3840, ..LARGE }),
-        ("1,920 by 1,080, source stride 16,384", Shape { source_stride: 16_384, ..LARGE }),
-    ];
-    for (name, shape) in all {
+    for (name, shape) in SHAPES {
         let source = bench.random(shape, [8; 3]);
         let ticket = bench.box_job(s, Way::Forward, shape, source);
         bench.row(&format!("{}, {}", called, name), ticket, at_most_of(2.0, large, "the frame"));
@@ -138,6 +133,7 @@ fn main() {
     let lossless = other_matrices(&mut bench);
     shapes(&mut bench, "code 1, forward", CODE_1, code_1);
     shapes(&mut bench, "lossless, forward", LOSSLESS, lossless);
+    judging::add(&mut bench);
     bench.run(turns);
     println!("1,920 by 1,080 where the row says nothing else; {}.\n", Jobs::rule(turns));
     bench.print();

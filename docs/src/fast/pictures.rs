@@ -19,6 +19,11 @@ impl Shape {
         Shape { width, height, source_stride: width, output_stride: width }
     }
 
+    /// The same where nothing is written.
+    pub const fn only_read(self) -> Shape {
+        Shape { output_stride: 0, ..self }
+    }
+
     pub fn pixels(&self) -> usize {
         self.width * self.height
     }

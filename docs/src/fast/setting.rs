@@ -5,7 +5,7 @@ const OF_2021: u8 = 1;
 const DRAFT: u8 = 2;
 pub const PUBLISHED: u8 = 3;
 
-#[derive(Clone, Copy, Debug)]
+#[derive(Clone, Copy, Debug, PartialEq, Eq)]
 pub struct Setting {
     pub edition: u8,
     pub primaries: u8,

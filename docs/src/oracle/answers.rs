@@ -2,12 +2,14 @@
 //!
 //! Pixel cases: `f` forward, `r` reverse, `s` source check, `m` meter of a
 //! pixel, `y` `b` `c` meter of one sample, `p` `t` `x` labels. Frame cases:
-//! `F` forward, `R` reverse, `I` image check. A setting starts with its edition,
-//! and a label case has the edition before the code. The answer to `F` and `R`
-//! has four lines, the last three of them the output planes; all others have
-//! one.
+//! `F` forward, `R` reverse, `I` image check, `J` a claimed frame judged forward,
+//! `K` one judged in reverse. A setting starts with its edition, and a label case
+//! has the edition before the code. `J` and `K` have width, height, the source's
+//! stride and the claimed one, then three source planes and three claimed ones,
+//! each as its length and its elements. The answer to `F` and `R` has four lines,
+//! the last three of them the output planes; all others have one.
 
-use crate::rules::{self, Label, Pixel, Refusal, Setting, Side, Way};
+use crate::rules::{self, Difference, Label, Pixel, Refusal, Setting, Side, Way};
 use crate::words::Words;
 
 /// The answers to a whole text, or words that name the line at fault.
@@ -43,6 +45,8 @@ fn answer_line(line: &str) -> Result<String, String> {
         "F" => frame_case(words, Way::Forward),
         "R" => frame_case(words, Way::Reverse),
         "I" => image_case(words),
+        "J" => judged_case(words, Way::Forward),
+        "K" => judged_case(words, Way::Reverse),
         other => Err(format!("'{}' is not a kind of case", other)),
     }
 }
@@ -121,6 +125,34 @@ fn image_case(mut words: Words) -> Result<String, String> {
         None => String::from("yes"),
         Some((row, column)) => format!("none row {} column {}", row, column),
     }))
+}
+
+fn judged_case(mut words: Words, way: Way) -> Result<String, String> {
+    let setting = words.setting()?;
+    let size = words.size()?;
+    let source_stride = words.number()?;
+    let claimed_stride = words.number()?;
+    let source = Side {
+        stride: source_stride,
+        planes: words.planes()?,
+    };
+    let claimed = Side {
+        stride: claimed_stride,
+        planes: words.planes()?,
+    };
+    words.end()?;
+    let judged = rules::judge_frame(&setting, way, size, &source, &claimed);
+    Ok(judged.map_or_else(refused, judgement))
+}
+
+fn judgement(found: Option<Difference>) -> String {
+    match found {
+        None => String::from("agrees"),
+        Some(first) => format!(
+            "differs row {} column {} wrong {}",
+            first.row, first.column, first.wrong
+        ),
+    }
 }
 
 fn samples(pixel: Pixel) -> String {

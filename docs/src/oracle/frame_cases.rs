@@ -4,6 +4,7 @@
 mod accepted;
 mod editions;
 mod frame;
+mod judged;
 mod making;
 mod rows;
 mod samples;
@@ -37,5 +38,6 @@ pub fn frame_cases(seed: u64) -> String {
     cases.every_kind_in_each_edition();
     cases.refused_for_edition();
     cases.large();
+    cases.judged_frames();
     cases.text
 }

@@ -5,6 +5,7 @@
 
 mod edition;
 mod frames;
+mod judging;
 mod labels;
 mod luma;
 mod matrix;
@@ -16,6 +17,7 @@ mod setting;
 mod ycgco;
 
 pub use frames::{convert_frame, first_without_source, Side, Size};
+pub use judging::{judge_frame, Difference};
 pub use labels::{matrix_label, primaries_label, transfer_label, Label};
 pub use luma::{levels_forward, levels_reverse};
 pub use meter::{meter_pixel, meter_sample};

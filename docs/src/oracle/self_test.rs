@@ -4,11 +4,15 @@
 
 mod editions;
 mod formulas;
+mod judged_texts;
+mod judging;
 mod texts;
 
 use crate::answers::answer_text;
 use crate::fraction::Fraction;
-use crate::worked::{BY_EDITION, EDGES, FRAMES, FRAME_ORDER, PIXELS, PIXEL_ORDER, REFUSALS};
+use crate::worked::{
+    BY_EDITION, EDGES, FRAMES, FRAME_ORDER, JUDGED, JUDGED_ORDER, PIXELS, PIXEL_ORDER, REFUSALS,
+};
 use std::fmt::Debug;
 
 /// What every part of the test gives: nothing, or the first mismatch in words.
@@ -26,6 +30,8 @@ pub fn run() -> Result<String, String> {
         &BY_EDITION,
         &FRAMES,
         &FRAME_ORDER,
+        &JUDGED,
+        &JUDGED_ORDER,
     ] {
         test.lines(lines)?;
     }
@@ -35,6 +41,7 @@ pub fn run() -> Result<String, String> {
     test.lossless_round_trips()?;
     test.solved_levels()?;
     test.greys()?;
+    test.planted_differences()?;
     test.texts()?;
     Ok(format!("oracle: {} checks\n", test.checks))
 }

@@ -1,6 +1,10 @@
 //! The rules' worked examples, typed in as cases with their answers, and lines
 //! of ours for what docs/RULES.md says in words.
 
+mod judged;
+
+pub use judged::{JUDGED, JUDGED_ORDER};
+
 /// A case line and its answer; a frame answer has its lines in one text.
 pub type Line = (&'static str, &'static str);
 

@@ -8,7 +8,7 @@ use crate::settings::{self, NO_EDITIONS};
 
 impl Cases {
     /// Small, since every frame stands here more than once.
-    fn smaller_size(&mut self) -> Size {
+    pub fn smaller_size(&mut self) -> Size {
         Size {
             width: 1 + self.random.below(3),
             height: 1 + self.random.below(2),

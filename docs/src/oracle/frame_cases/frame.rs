@@ -32,26 +32,38 @@ impl Frame {
     }
 
     pub fn words(&self, fill: u16) -> String {
-        let mut words = vec![
-            self.letter.to_string(),
-            setting_words(&self.setting),
-            self.size.width.to_string(),
-            self.size.height.to_string(),
-            self.source.stride.to_string(),
-        ];
-        if self.letter != 'I' {
-            words.push(self.output_stride.to_string());
-        }
-        for plane in &self.source.planes {
-            words.push(plane.len().to_string());
-            words.extend(plane.iter().map(u16::to_string));
-        }
+        let mut words = self.words_of_source(self.letter);
         if self.letter != 'I' {
             words.extend(self.output_lengths.iter().map(usize::to_string));
             words.push(fill.to_string());
         }
         words.join(" ")
     }
+
+    /// The words up to the source planes, these included, of a call.
+    pub fn words_of_source(&self, letter: char) -> Vec<String> {
+        let mut words = vec![
+            letter.to_string(),
+            setting_words(&self.setting),
+            self.size.width.to_string(),
+            self.size.height.to_string(),
+            self.source.stride.to_string(),
+        ];
+        if letter != 'I' {
+            words.push(self.output_stride.to_string());
+        }
+        for plane in &self.source.planes {
+            words.extend(plane_words(plane));
+        }
+        words
+    }
+}
+
+/// A plane's length, and then its elements.
+pub fn plane_words(plane: &[u16]) -> Vec<String> {
+    let mut words = vec![plane.len().to_string()];
+    words.extend(plane.iter().map(u16::to_string));
+    words
 }
 
 /// An image check reads the planes that a reverse conversion reads.

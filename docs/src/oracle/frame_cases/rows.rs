@@ -60,23 +60,29 @@ impl Cases {
         let made_as = if not_lossless { 'R' } else { letter };
         let mut frame = self.frame(made_as, s, size);
         frame.letter = letter;
+        self.break_rows(&mut frame, set);
+        frame
+    }
+
+    /// Breaks the rows of a set in a good frame: 16 for row 10, 8 for 9, 4 for
+    /// 8, and 1 for one of 1 to 7.
+    pub fn break_rows(&mut self, frame: &mut Frame, set: u32) {
         if set & 16 != 0 {
-            self.spoil_somewhere(&mut frame);
+            self.spoil_somewhere(frame);
         }
         if set & 8 != 0 {
-            let plane = self.random.below(Cases::planes_of(letter) as u64) as usize;
-            let least = Cases::least_length(&frame, plane) as u64;
+            let plane = self.random.below(Cases::planes_of(frame.letter) as u64) as usize;
+            let least = Cases::least_length(frame, plane) as u64;
             let length = self.random.below(least) as usize;
-            self.set_length(&mut frame, plane, length);
+            self.set_length(frame, plane, length);
         }
         if set & 4 != 0 {
-            self.break_size(&mut frame);
+            self.break_size(frame);
         }
         if set & 1 != 0 {
             // Often 7, the last row before those of sizes and samples.
             let row = self.random.pick(&[1, 2, 3, 4, 5, 6, 7, 7, 7, 7]);
             settings::break_row(&mut self.random, &mut frame.setting, row);
         }
-        frame
     }
 }

@@ -7,7 +7,7 @@ use crate::settings;
 
 /// Sides of a picture that are not served. Cut down to 16 or 32 bits, some of
 /// them would be.
-const BAD_SIDES: [u64; 7] = [
+pub const BAD_SIDES: [u64; 7] = [
     0,
     8193,
     16384,
@@ -18,7 +18,7 @@ const BAD_SIDES: [u64; 7] = [
 ];
 
 /// Strides that are refused for being large, likewise.
-const LARGE_STRIDES: [u64; 5] = [16385, 65536 + 8, (1 << 32) + 8, 1 << 63, u64::MAX];
+pub const LARGE_STRIDES: [u64; 5] = [16385, 65536 + 8, (1 << 32) + 8, 1 << 63, u64::MAX];
 
 impl Cases {
     /// Gives one plane of the case a length; planes 3 to 5 are the output's.

@@ -26,14 +26,14 @@ impl Side {
         (row * self.stride + column) as usize
     }
 
-    fn pixel(&self, row: u64, column: u64) -> Pixel {
+    pub(super) fn pixel(&self, row: u64, column: u64) -> Pixel {
         let index = self.index(row, column);
         [0, 1, 2].map(|plane: usize| self.planes[plane][index])
     }
 }
 
 /// Refusal 8, over the strides of all sides of the call.
-fn size_refusal(size: Size, strides: &[u64]) -> Result<(), Refusal> {
+pub(super) fn size_refusal(size: Size, strides: &[u64]) -> Result<(), Refusal> {
     let served = 1..=8192;
     let size_served = served.contains(&size.width) && served.contains(&size.height);
     let stride_served = |&stride: &u64| size.width <= stride && stride <= 16_384;
@@ -45,7 +45,7 @@ fn size_refusal(size: Size, strides: &[u64]) -> Result<(), Refusal> {
 }
 
 /// Refusal 9 of one side; after 8, so that nothing here is large.
-fn length_refusal(size: Size, side: &Side) -> Result<(), Refusal> {
+pub(super) fn length_refusal(size: Size, side: &Side) -> Result<(), Refusal> {
     let needed = (size.height - 1) * side.stride + size.width;
     if side
         .planes
@@ -59,7 +59,7 @@ fn length_refusal(size: Size, side: &Side) -> Result<(), Refusal> {
 }
 
 /// Refusal 10: plane by plane, in it row by row, in it column by column.
-fn picture_refusal(size: Size, source: &Side, depths: [u8; 3]) -> Result<(), Refusal> {
+pub(super) fn picture_refusal(size: Size, source: &Side, depths: [u8; 3]) -> Result<(), Refusal> {
     for plane in 0..3 {
         for row in 0..size.height {
             for column in 0..size.width {

@@ -26,8 +26,8 @@ const LOSSLESS: [(u8, &[(u8, u8, u8)]); 3] = [
 const OLDER_AND_NEWER: [(u8, u8); 3] = [(1, 2), (1, 3), (2, 3)];
 
 /// Every kind of case.
-const LETTERS: [char; 13] = [
-    'f', 'r', 's', 'm', 'y', 'b', 'c', 'p', 't', 'x', 'F', 'R', 'I',
+const LETTERS: [char; 15] = [
+    'f', 'r', 's', 'm', 'y', 'b', 'c', 'p', 't', 'x', 'F', 'R', 'I', 'J', 'K',
 ];
 
 /// What follows the edition in a case where all else is at fault too.
@@ -37,6 +37,7 @@ fn all_at_fault(letter: char) -> String {
         'y' | 'b' | 'c' => "65535",
         'F' | 'R' => "0 9999 0 0 0 0 1 65535 2 1 0 9",
         'I' => "0 9999 0 0 0 1 65535",
+        'J' | 'K' => "0 9999 0 0 0 0 1 65535 0 1 65535 0",
         _ => "65535 65535 65535",
     };
     format!("0 0 3 99 0 7 0 1 {}", rest)

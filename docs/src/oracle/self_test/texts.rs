@@ -10,14 +10,17 @@ use crate::words::Words;
 
 /// How many bytes of cases the proved programs take: `room` in
 /// crates/case_lines/src/lib.rt. They would not see what goes beyond.
-const ROOM: usize = 1_200_000;
+const ROOM: usize = 1_400_000;
 
 /// How the first lines of frame answers start; the place of 10 by its plane.
-const FRAME_ANSWERS: [&str; 17] = [
+const FRAME_ANSWERS: [&str; 20] = [
     "done",
     "yes",
     "none row 0",
     "none row 1",
+    "agrees",
+    "differs row 0",
+    "differs row 1",
     "refused 1",
     "refused 2",
     "refused 3",
@@ -40,6 +43,7 @@ impl Test {
             let frames = frame_cases(seed);
             self.pixel_text(seed, &pixels)?;
             self.frame_text(seed, &frames)?;
+            self.judged_text(seed, &frames)?;
             self.editions_of_text(seed, &(pixels + &frames))?;
         }
         Ok(())
@@ -85,10 +89,10 @@ impl Test {
     }
 }
 
-/// A frame case with other old contents of its output planes.
+/// A frame case with other old contents of its output planes, if it has any.
 fn refilled(case: &str) -> String {
     match case.rsplit_once(' ') {
-        Some((before, _)) if !case.starts_with('I') => format!("{} 4711\n", before),
+        Some((before, _)) if case.starts_with(['F', 'R']) => format!("{} 4711\n", before),
         _ => format!("{}\n", case),
     }
 }

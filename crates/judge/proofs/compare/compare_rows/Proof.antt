@@ -1,0 +1,13 @@
+-- `judge::compare::compare_rows` meets its contract: the first is looked for only where it is sought.
+use mathlib.Core.Path.{refl, sym, _∙_}
+use mathlib.Core.Bool.{true≢false}
+use borrow.Author.Needs.{needs}
+use Rattle.judge.proofs.compare.compare_rows.Statement.{statement}
+use Rattle.judge.proofs.compare.compare_rows.Tie as tie
+
+returns-2 : tie.Need-returns-2
+returns-2 c =
+    record { fine = refl; counted = c .before .count-apart .ensures; found = λ e. absurd (true≢false (sym e ∙ c .if1 .left)) }
+
+pub compare-rows-spec : {M : Type 1} → statement M
+compare-rows-spec = tie.close (tie.spec (λ c κs. search needs) (λ c κs. search needs) (λ c. search needs) returns-2)

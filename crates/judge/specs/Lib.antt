@@ -1,0 +1,3 @@
+-- How a claimed picture is judged.
+pub mod Count
+pub mod Judge

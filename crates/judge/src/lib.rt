@@ -1,0 +1,113 @@
+// A claimed picture, judged: is each of its pixels the one that the box's own conversion of the source gives?
+mod compare;
+mod picture;
+mod run;
+
+ghost use mathlib.Core.Path.{_≡_};
+ghost use Rattle.planes.specs.Picture.{layoutOf};
+ghost use Rattle.planes.specs.Sizes.{Fits};
+ghost use Rattle.setting.specs.Ready.{Ready};
+ghost use Rattle.frame.specs.Frame.{inputPicture};
+ghost use Rattle.judge.specs.Judge.{claimedPicture, verdict, judgement, JudgedIf};
+use crate::picture::Told;
+use frame::Size;
+use planes::size::Layout;
+use refusal::Place;
+use refusal::Refusal;
+use scan::Found;
+use setting::Call;
+use setting::Setting;
+use setting::Way;
+use setting::admission::Admission;
+use setting::admission::Served;
+
+// It agrees, or it differs: first at a place of plane 0, and at so many pixels.
+pub enum Judgement {
+    Agrees,
+    Differs(Place, u64),
+    Refused(Refusal),
+}
+
+fn verdict(first: Found, wrong: u64) -> Judgement
+    ensures { λ r. ⌜ r ≡ verdict first wrong ⌝ }
+{
+    match first {
+        Found::At(place) => Judgement::Differs(place, wrong),
+        Found::Nothing => Judgement::Agrees,
+    }
+}
+
+// What is served, judged, if every sample of the source is within its depth: rows are tested as they are judged, so that each is read once from far
+// away.
+fn judged(
+    way: Way,
+    served: Served,
+    size: Size,
+    a0: &[u16],
+    a1: &[u16],
+    a2: &[u16],
+    b0: &[u16],
+    b1: &[u16],
+    b2: &[u16],
+) -> Told
+    requires { ⌜ Ready served ⌝ }
+    requires { ⌜ Fits (size .width) (size .height) (layoutOf (inputPicture size (now a0) (now a1) (now a2))) ⌝ }
+    requires { ⌜ Fits (size .width) (size .height) (layoutOf (claimedPicture size (now b0) (now b1) (now b2))) ⌝ }
+    ensures { λ r. ⌜ JudgedIf r way served (inputPicture size (now (a0 .entry)) (now (a1 .entry)) (now (a2 .entry)))
+        (claimedPicture size (now (b0 .entry)) (now (b1 .entry)) (now (b2 .entry))) ⌝ }
+{
+    let depths = served.depths;
+    let tops = depths.tops(setting::reads(Call::Convert(way)));
+    let plan = row_plan::plan_rows(way, served);
+    picture::tell(plan, tops, size, a0, a1, a2, b0, b1, b2)
+}
+
+// The planes a are the source and the planes b are claimed to be its conversion. The sizes are those of a conversion into the planes b.
+pub fn judge_frame(
+    way: Way,
+    s: Setting,
+    size: Size,
+    a0: &[u16],
+    a1: &[u16],
+    a2: &[u16],
+    b0: &[u16],
+    b1: &[u16],
+    b2: &[u16],
+) -> Judgement
+    ensures { λ r. ⌜ r ≡ judgement way s (inputPicture size (now (a0 .entry)) (now (a1 .entry)) (now (a2 .entry)))
+        (claimedPicture size (now (b0 .entry)) (now (b1 .entry)) (now (b2 .entry))) ⌝ }
+{
+    let width = size.width;
+    let height = size.height;
+    let input_stride = size.input_stride;
+    let output_stride = size.output_stride;
+    let call = Call::Convert(way);
+    let input = Layout {
+        stride: input_stride,
+        n0: a0.len(),
+        n1: a1.len(),
+        n2: a2.len(),
+    };
+    let claimed = Layout {
+        stride: output_stride,
+        n0: b0.len(),
+        n1: b1.len(),
+        n2: b2.len(),
+    };
+    match admit::admit_sizes(call, s, width, height, input, claimed) {
+        Admission::Refused(refusal) => Judgement::Refused(refusal),
+        Admission::Admitted(served) => {
+            let told = judged(way, served, size, a0, a1, a2, b0, b1, b2);
+            if told.fine {
+                let first = told.first;
+                let wrong = told.wrong;
+                return verdict(first, wrong);
+            }
+            match admit::admit_picture(call, s, width, height, input_stride, claimed, a0, a1, a2) {
+                Admission::Refused(refusal) => Judgement::Refused(refusal),
+                // never: a sample is beyond its depth
+                Admission::Admitted(_) => Judgement::Agrees,
+            }
+        }
+    }
+}
