@@ -1,5 +1,4 @@
 -- Laws of judging.
-pub mod CountLaws
 pub mod PlaceLaws
 pub mod RunLaws
 pub mod PictureLaws

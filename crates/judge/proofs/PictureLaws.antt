@@ -16,12 +16,13 @@ use Rattle.scan.specs.declared.Found.{Found}
 use Rattle.scan.specs.declared.Found.the-variants.{Nothing}
 use Rattle.scan.proofs.Searches.{yes}
 use Rattle.convert.specs.Row.{pixelIn}
+use Rattle.compare.specs.Count.{countOf, countPlaces, FirstAt}
+use Rattle.compare.specs.Compare.{differ, Compared}
+use Rattle.compare.specs.declared.Tally.{Tally}
+use Rattle.compare.proofs.CompareLaws.{compared-same}
 use Rattle.frame.proofs.PaintLaws.{Seen, seen-none, seen-all}
-use Rattle.judge.specs.Count.{countOf, countPlaces, FirstAt}
-use Rattle.judge.specs.Judge.{mostRun, differ, isWrong, orRow, foundIn, runWrong, Compared, RunTold, PictureTold}
-use Rattle.judge.specs.declared.run.Tally.{Tally}
+use Rattle.judge.specs.Judge.{mostRun, isWrong, orRow, foundIn, runWrong, RunTold, PictureTold}
 use Rattle.judge.proofs.PlaceLaws.{places-none, places-most, row-first, row-counted, all-counted, all-first}
-use Rattle.judge.proofs.RunLaws.{compared-same}
 
 -- The loop's invariant: the first j rows are told.
 pub record Rows (tops : Pixel) (f : Pixel → Pixel) (a b : Picture) (first : Found) (wrong j : ℕ) : Type 0 where

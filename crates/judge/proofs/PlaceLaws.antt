@@ -13,9 +13,9 @@ use Rattle.scan.specs.First.{Before, orFound, firstOf, placeIf, placeInRow, fir
 use Rattle.scan.specs.declared.Found.{Found}
 use Rattle.scan.specs.declared.Found.the-variants.{At, Nothing}
 use Rattle.scan.proofs.Searches.{nothing-exactly, found-exactly, no-place-means, first-place-means}
-use Rattle.judge.specs.Count.{countOf, countPlaces, FirstAt}
+use Rattle.compare.specs.Count.{countOf, countPlaces, FirstAt}
+use Rattle.compare.proofs.CountLaws.{count-parts, count-same, count-most, none-counted, counted-none}
 use Rattle.judge.specs.Judge.{orRow, foundIn}
-use Rattle.judge.proofs.CountLaws.{count-parts, count-same, count-most, none-counted, counted-none}
 
 -- ---- row by row
 

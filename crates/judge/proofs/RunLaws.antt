@@ -16,27 +16,15 @@ use Rattle.planes.proofs.Tables.{part-at, part-width, length-tab, tab-at}
 use Rattle.scan.specs.First.{RunFine, RunsFine, Tells}
 use Rattle.scan.proofs.Searches.{yes}
 use Rattle.convert.specs.Row.{rowPart, rowOf, pixelIn, ConvertedRows}
+use Rattle.compare.specs.Count.{countOf, FirstAt}
+use Rattle.compare.specs.Compare.{differ, rowsDiffer, Compared}
+use Rattle.compare.specs.declared.Tally.{Tally}
+use Rattle.compare.proofs.CountLaws.{count-none, count-parts, count-same, first-none, first-part, first-kept}
+use Rattle.compare.proofs.CompareLaws.{first-same}
 use Rattle.frame.specs.Frame.{mappedPart, FineParts, RowsPut}
 use Rattle.frame.proofs.FineLaws as frame
 use Rattle.frame.proofs.FineLaws.{first-fine, second-fine, third-fine}
-use Rattle.judge.specs.Count.{countOf, FirstAt}
-use Rattle.judge.specs.Judge.{differ, rowsDiffer, runWrong, Compared, RunTold}
-use Rattle.judge.specs.declared.run.Tally.{Tally}
-use Rattle.judge.proofs.CountLaws.{count-none, count-parts, count-same, first-none, first-part, first-kept}
-
--- ---- a test that is the same wherever it is asked
-
-first-same : {f g : ℕ → Bool} {n first : ℕ} → ((k : ℕ) → k < n → f k ≡ g k) → FirstAt f n first → FirstAt g n first
-first-same e h =
-    record {
-      within = h .within;
-      none-before = λ k l. sym (e k (omega (arith, l, h .within))) ∙ h .none-before k l;
-      passes = λ l. sym (e _ l) ∙ h .passes l;
-    }
-
-pub compared-same : {r : Tally} {sought : Bool} {n : ℕ} {f g : ℕ → Bool} → ((k : ℕ) → k < n → f k ≡ g k) → Compared r sought n f → Compared r sought n g
-compared-same e h =
-    record { fine = h .fine; counted = h .counted ∙ count-same _ _ _ e; found = λ s. first-same e (h .found s) }
+use Rattle.judge.specs.Judge.{runWrong, RunTold}
 
 -- ---- a part
 

@@ -1,7 +1,7 @@
 -- A claimed picture, held against what a conversion makes of its source: whether each claimed pixel is that, and else which is the first that is
 -- not, and how many are not. Only what stands at the picture's own places counts.
 use mathlib.Core.Path.{_≡_}
-use mathlib.Core.Bool.{Bool, true, not, cond}
+use mathlib.Core.Bool.{Bool, true, cond}
 use mathlib.Core.List.{List}
 use Prim.Native.Nat.{ℕ, _+_, _*_, _/_, _%_}
 use lib.Dec.{leb}
@@ -20,19 +20,15 @@ use Rattle.scan.specs.First.{orFound, firstPlace, NotAbove, RunsFine, Tells}
 use Rattle.scan.specs.declared.Found.{Found}
 use Rattle.scan.specs.declared.Found.the-variants as found
 use Rattle.plan.specs.Conversion.{convert}
-use Rattle.plan.specs.Source.{samePixel}
 use Rattle.convert.specs.Row.{pixelIn}
+use Rattle.compare.specs.Count.{countPlaces}
+use Rattle.compare.specs.Compare.{differ, Compared}
+use Rattle.compare.specs.declared.Tally.{Tally}
 use Rattle.frame.specs.Frame.{frameAdmission}
 use Rattle.frame.specs.declared.Size.{Size}
-use Rattle.judge.specs.Count.{countOf, countPlaces, FirstAt}
 use Rattle.judge.specs.declared.Judgement.{Judgement}
 use Rattle.judge.specs.declared.Judgement.the-variants.{Agrees, Differs, Refused}
 use Rattle.judge.specs.declared.picture.Told.{Told}
-use Rattle.judge.specs.declared.run.Tally.{Tally}
-
--- whether two pixels differ, in one sample or in more
-abbrev pub differ : Pixel → Pixel → Bool
-differ p q = not (samePixel p q)
 
 -- whether the claimed pixel at row j and column i is another than f makes of the source's
 abbrev pub isWrong : (Pixel → Pixel) → Picture → Picture → ℕ → ℕ → Bool
@@ -62,26 +58,13 @@ judgement way s a b = judgeBy (frameAdmission way s a (layoutOf b)) way a b
 abbrev pub claimedPicture : Size → List ℕ → List ℕ → List ℕ → Picture
 claimedPicture z p0 p1 p2 = picture (z .width) (z .height) (z .«output_stride») p0 p1 p2
 
--- whether two rows differ at index i
-abbrev pub rowsDiffer : (c0 c1 c2 b0 b1 b2 : List ℕ) → ℕ → Bool
-rowsDiffer c0 c1 c2 b0 b1 b2 i = differ (pixelIn c0 c1 c2 i) (pixelIn b0 b1 b2 i)
-
--- the same of two runs of pixels, from index `from` of the source's planes and index `to` of the claimed
+-- whether the pixel at index k of two runs is wrong: they lie from index `from` of the source's planes and from index `to` of the claimed
 abbrev pub runWrong : (Pixel → Pixel) → ℕ → ℕ → (a0 a1 a2 b0 b1 b2 : List ℕ) → ℕ → Bool
 runWrong f from to a0 a1 a2 b0 b1 b2 k = differ (f (pixelIn a0 a1 a2 (from + k))) (pixelIn b0 b1 b2 (to + k))
 
--- how many pixels are converted before they are compared, and how many a run has at most
-abbrev pub mostPart : ℕ
-mostPart = 512
-
+-- how many pixels a run has at most
 abbrev pub mostRun : ℕ
 mostRun = mostSize * mostSize
-
--- n pixels by a test of them: all that are wrong are counted, and the first is named where it was sought
-pub record Compared (r : Tally) (sought : Bool) (n : ℕ) (test : ℕ → Bool) : Type 0 where
-  pub fine : r .fine ≡ true
-  pub counted : r .wrong ≡ countOf n test
-  pub found : sought ≡ true → FirstAt test n (r .first)
 
 -- n pixels of two runs, compared exactly if no sample of the source's is above its top
 pub record PartTold (r : Tally) (sought : Bool) (tops : Pixel) (f : Pixel → Pixel) (from to n : ℕ) (a0 a1 a2 b0 b1 b2 : List ℕ) : Type 0 where

@@ -1,3 +1,2 @@
 -- How a claimed picture is judged.
-pub mod Count
 pub mod Judge

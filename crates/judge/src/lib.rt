@@ -1,5 +1,4 @@
 // A claimed picture, judged: is each of its pixels the one that the box's own conversion of the source gives?
-mod compare;
 mod picture;
 mod run;
 

@@ -6,22 +6,16 @@ ghost use lib.ListN.{length};
 ghost use Rattle.planes.specs.Sizes.{Long};
 ghost use Rattle.row_plan.specs.RowPlan.{rowPlanned, RowRoomy};
 ghost use Rattle.frame.specs.Frame.{TakesUpTo};
-ghost use Rattle.judge.specs.Judge.{mostPart, mostRun, PartTold, RunTold};
-use crate::compare::compare_part;
+ghost use Rattle.compare.specs.Compare.{mostPart};
+ghost use Rattle.judge.specs.Judge.{mostRun, PartTold, RunTold};
+use compare::Tally;
+use compare::compare_part;
 use frame::paint::paint_row;
 use row_plan::RowPlan;
 use sample::Pixel;
 
 // How many pixels are converted before they are compared: few enough to stay in the nearest cache, and to be counted in 16 bits.
 const PART: usize = 512;
-
-// What a run comes to, where no sample of its source is above its top: the index of the first pixel that is wrong, which is past the last where none
-// is, and how many are wrong.
-pub struct Tally {
-    pub fine: bool,
-    pub first: usize,
-    pub wrong: u64,
-}
 
 // How many pixels the next part has, where `left` are left.
 fn next_part(left: usize) -> usize

@@ -24,11 +24,12 @@ use Rattle.scan.proofs.Searches.{no-place-means, first-place-means}
 use Rattle.plan.specs.Conversion.{convert}
 use Rattle.plan.specs.Source.{samePixel}
 use Rattle.plan.proofs.ConversionTheorems.{same-pixel, pixel-same}
+use Rattle.compare.specs.Count.{countPlaces}
+use Rattle.compare.specs.Compare.{differ}
 use Rattle.admit.specs.Rules.{pictureRules}
 use Rattle.frame.specs.Frame.{inputPicture, outputLayout}
 use Rattle.frame.specs.declared.Size.{Size}
-use Rattle.judge.specs.Count.{countPlaces}
-use Rattle.judge.specs.Judge.{differ, isWrong, firstWrong, countWrong, verdict, judgeBy, judgement}
+use Rattle.judge.specs.Judge.{isWrong, firstWrong, countWrong, verdict, judgeBy, judgement}
 use Rattle.judge.proofs.PlaceLaws.{none-wrong, wrong-none, places-same}
 use Rattle.corkplover.specs.Meaning.{Meaning, meaningOfJudgement}
 use Rattle.promises.specs.Frames.{ConvertsFrame, ConvertsPlanes, leftIn, SamePixels}

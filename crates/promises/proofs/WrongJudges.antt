@@ -18,8 +18,8 @@ use Rattle.setting.specs.Matrix.{matrixOf}
 use Rattle.setting.specs.Agreement.{depthsServed, agree}
 use Rattle.setting.specs.declared.Way.the-variants.{Forward}
 use Rattle.plan.specs.Conversion.{convert}
+use Rattle.compare.specs.Count.{countOf, countPlaces}
 use Rattle.admit.specs.Rules.{callAdmission}
-use Rattle.judge.specs.Count.{countOf, countPlaces}
 use Rattle.judge.specs.Judge.{judgement}
 use Rattle.judge.specs.declared.Judgement.the-variants.{Agrees, Differs, Refused}
 use Rattle.corkplover.specs.Packing.{wrongIn}

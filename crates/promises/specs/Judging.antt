@@ -13,11 +13,12 @@ use Rattle.setting.specs.declared.Way.{Way}
 use Rattle.planes.specs.Picture.{Picture, picture, pixelOf, layoutOf}
 use Rattle.planes.specs.declared.size.Layout.{Layout}
 use Rattle.scan.specs.First.{IsFirstPlace}
+use Rattle.compare.specs.Count.{countPlaces}
+use Rattle.compare.specs.Compare.{differ}
 use Rattle.admit.specs.Rules.{pictureRules}
 use Rattle.frame.specs.Frame.{inputPicture, outPlane}
 use Rattle.frame.specs.declared.Size.{Size}
-use Rattle.judge.specs.Count.{countPlaces}
-use Rattle.judge.specs.Judge.{differ, claimedPicture}
+use Rattle.judge.specs.Judge.{claimedPicture}
 use Rattle.corkplover.specs.Meaning.{Meaning}
 use Rattle.promises.specs.Frames.{SamePixels}
 use Rattle.promises.specs.Refusing.{Refuses, BadIn}

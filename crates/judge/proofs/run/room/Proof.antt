@@ -1,7 +1,7 @@
 -- `judge::run::room` meets its contract: it has as many elements as were asked for.
 use Prim.Native.Nat.{ℕ}
 use lib.ListN.{length-replicate}
-use Rattle.judge.specs.Judge.{mostPart}
+use Rattle.compare.specs.Compare.{mostPart}
 use Rattle.judge.proofs.run.room.Statement.{statement}
 use Rattle.judge.proofs.run.room.Tie as tie
 

@@ -9,7 +9,8 @@ use Rattle.convert.specs.Row.{rowPart, ConvertedRows}
 use Rattle.row_plan.specs.RowPlan.{rowPlanned}
 use Rattle.scan.specs.First.{RunsFine, Tells}
 use Rattle.scan.proofs.Searches.{yes, no}
-use Rattle.judge.proofs.RunLaws.{part-put, part-same, compared-same, tells-runs}
+use Rattle.compare.proofs.CompareLaws.{compared-same}
+use Rattle.judge.proofs.RunLaws.{part-put, part-same, tells-runs}
 use Rattle.judge.proofs.run.tally_part.Statement.{statement}
 use Rattle.judge.proofs.run.tally_part.Tie as tie
 

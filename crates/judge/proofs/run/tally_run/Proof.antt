@@ -9,8 +9,9 @@ use borrow.Author.Needs.{needs}
 use borrow.Author.Tests.{eqb-true, eqb-false, not-true, not-false}
 use lib.ListN.{length}
 use Rattle.row_plan.specs.RowPlan.{rowPlanned}
-use Rattle.judge.specs.Judge.{mostPart, runWrong}
-use Rattle.judge.proofs.CountLaws.{count-most}
+use Rattle.compare.specs.Compare.{mostPart}
+use Rattle.compare.proofs.CountLaws.{count-most}
+use Rattle.judge.specs.Judge.{runWrong}
 use Rattle.judge.proofs.RunLaws.{Running, running-none, running-sought, running-found, running-all, part-of-fine}
 use Rattle.judge.proofs.run.tally_run.Statement.{statement}
 use Rattle.judge.proofs.run.tally_run.Tie as tie

@@ -7,7 +7,7 @@ use native.Mathlib.Nat.{add-zero, add-suc, eq-or-lt-of-le, le-of-suc-le-suc, not
 use native.Mathlib.Omega.{arith}
 use borrow.Author.Count.{below-more}
 use Rattle.sample.proofs.Choices.{below-or-not}
-use Rattle.judge.specs.Count.{oneIf, countOf, FirstAt}
+use Rattle.compare.specs.Count.{oneIf, countOf, FirstAt}
 
 -- ---- counting
 

@@ -1,15 +1,15 @@
--- `judge::compare::count_apart` meets its contract: as many are counted as differ so far.
+-- `compare::count_apart` meets its contract: as many are counted as differ so far.
 use mathlib.Core.Path.{_≡_, refl, sym, ap, _∙_}
 use mathlib.Core.Bool.{Bool}
 use Prim.Native.Nat.{ℕ, _+_, _-_, _≤_}
 use native.Mathlib.Omega.{arith}
 use borrow.Author.Needs.{needs}
 use lib.ListN.{length}
-use Rattle.judge.specs.Count.{oneIf, countOf}
-use Rattle.judge.specs.Judge.{differ, rowsDiffer}
-use Rattle.judge.proofs.CountLaws.{count-none, count-more, count-most, one-most}
-use Rattle.judge.proofs.compare.count_apart.Statement.{statement}
-use Rattle.judge.proofs.compare.count_apart.Tie as tie
+use Rattle.compare.specs.Count.{oneIf, countOf}
+use Rattle.compare.specs.Compare.{differ, rowsDiffer}
+use Rattle.compare.proofs.CountLaws.{count-none, count-more, count-most, one-most}
+use Rattle.compare.proofs.count_apart.Statement.{statement}
+use Rattle.compare.proofs.count_apart.Tie as tie
 
 abbrev Inv-loop : tie.InvT-loop
 Inv-loop c0 c1 c2 b0 b1 b2 wrong₀ i₀ i-end wrong i = (i ≤ i-end) × ((i-end ≡ length c0) × (wrong ≡ countOf i (rowsDiffer c0 c1 c2 b0 b1 b2)))

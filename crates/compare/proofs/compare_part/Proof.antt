@@ -1,4 +1,4 @@
--- `judge::compare::compare_part` meets its contract: the six parts that are lent have n pixels.
+-- `compare::compare_part` meets its contract: the six parts that are lent have n pixels.
 use mathlib.Core.Path.{_≡_, sym, subst}
 use native.Mathlib.Omega.{arith}
 use borrow.Author.Needs.{needs}
@@ -6,9 +6,9 @@ use lib.ListN.{length, take}
 use lib.Seq.{length-take-le}
 use Rattle.planes.proofs.Tables.{part-width}
 use Rattle.convert.specs.Row.{rowPart}
-use Rattle.judge.specs.Judge.{rowsDiffer, Compared}
-use Rattle.judge.proofs.compare.compare_part.Statement.{statement}
-use Rattle.judge.proofs.compare.compare_part.Tie as tie
+use Rattle.compare.specs.Compare.{rowsDiffer, Compared}
+use Rattle.compare.proofs.compare_part.Statement.{statement}
+use Rattle.compare.proofs.compare_part.Tie as tie
 
 -- the three rows' parts
 own : (s : tie.Start)

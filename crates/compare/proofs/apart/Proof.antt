@@ -1,8 +1,8 @@
--- `judge::compare::apart` meets its contract, either way.
+-- `compare::apart` meets its contract, either way.
 use mathlib.Core.Path.{sym, _∙_}
 use borrow.Author.Needs.{needs}
-use Rattle.judge.proofs.compare.apart.Statement.{statement}
-use Rattle.judge.proofs.compare.apart.Tie as tie
+use Rattle.compare.proofs.apart.Statement.{statement}
+use Rattle.compare.proofs.apart.Tie as tie
 
 returns : tie.Need-returns
 returns c = rw (sym (c .before .is-same .ensures) ∙ c .if1 .taken)

@@ -1,4 +1,4 @@
--- `judge::compare::first_apart` meets its contract: none before index i differs, and the one where the loop stops does.
+-- `compare::first_apart` meets its contract: none before index i differs, and the one where the loop stops does.
 use mathlib.Core.Path.{_≡_, ap, sym, _∙_, subst}
 use mathlib.Core.Bool.{not}
 use Prim.Native.Nat.{_≤_, _-_}
@@ -7,11 +7,11 @@ use borrow.Author.Needs.{needs}
 use lib.ListN.{length}
 use Rattle.plan.specs.Source.{samePixel}
 use Rattle.convert.specs.Row.{pixelIn}
-use Rattle.judge.specs.Count.{FirstAt}
-use Rattle.judge.specs.Judge.{rowsDiffer}
-use Rattle.judge.proofs.CountLaws.{none-counted, first-none, first-more, first-here, first-past}
-use Rattle.judge.proofs.compare.first_apart.Statement.{statement}
-use Rattle.judge.proofs.compare.first_apart.Tie as tie
+use Rattle.compare.specs.Count.{FirstAt}
+use Rattle.compare.specs.Compare.{rowsDiffer}
+use Rattle.compare.proofs.CountLaws.{none-counted, first-none, first-more, first-here, first-past}
+use Rattle.compare.proofs.first_apart.Statement.{statement}
+use Rattle.compare.proofs.first_apart.Tie as tie
 
 abbrev Inv-loop : tie.InvT-loop
 Inv-loop wrong c0 c1 c2 b0 b1 b2 i₀ i = (i ≤ length c0) × FirstAt (rowsDiffer c0 c1 c2 b0 b1 b2) i i

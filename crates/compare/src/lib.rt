@@ -4,11 +4,18 @@ ghost use Prim.Native.Nat.{_+_, _≤_};
 ghost use lib.ListN.{length, take};
 ghost use Rattle.planes.specs.Sizes.{Long};
 ghost use Rattle.convert.specs.Row.{rowPart, OneWidth};
-ghost use Rattle.judge.specs.Count.{oneIf, countOf, FirstAt};
-ghost use Rattle.judge.specs.Judge.{mostPart, differ, rowsDiffer, Compared};
-use crate::run::Tally;
+ghost use Rattle.compare.specs.Count.{oneIf, countOf, FirstAt};
+ghost use Rattle.compare.specs.Compare.{mostPart, differ, rowsDiffer, Compared};
 use convert::pixels::pixel_in;
 use sample::Pixel;
+
+// What a run comes to, where no sample of its source is above its top: the index of the first pixel that is wrong, which is past the last where none
+// is, and how many are wrong.
+pub struct Tally {
+    pub fine: bool,
+    pub first: usize,
+    pub wrong: u64,
+}
 
 // 1 of two pixels that differ, and else 0.
 fn apart(p: Pixel, q: Pixel) -> u16

@@ -1,9 +1,9 @@
--- `judge::compare::compare_rows` meets its contract: the first is looked for only where it is sought.
+-- `compare::compare_rows` meets its contract: the first is looked for only where it is sought.
 use mathlib.Core.Path.{refl, sym, _∙_}
 use mathlib.Core.Bool.{true≢false}
 use borrow.Author.Needs.{needs}
-use Rattle.judge.proofs.compare.compare_rows.Statement.{statement}
-use Rattle.judge.proofs.compare.compare_rows.Tie as tie
+use Rattle.compare.proofs.compare_rows.Statement.{statement}
+use Rattle.compare.proofs.compare_rows.Tie as tie
 
 returns-2 : tie.Need-returns-2
 returns-2 c =

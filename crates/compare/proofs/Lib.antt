@@ -1,0 +1,3 @@
+-- Laws of comparing.
+pub mod CountLaws
+pub mod CompareLaws

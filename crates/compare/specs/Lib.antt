@@ -1,0 +1,3 @@
+-- How two rows are compared.
+pub mod Count
+pub mod Compare
