@@ -3,8 +3,7 @@ ghost use mathlib.Core.Path.{_≡_};
 ghost use Rattle.frame.specs.Frame.{inputPicture};
 ghost use Rattle.judge.specs.Judge.{claimedPicture, judgement};
 use crate::pictures::ROOM;
-use crate::pictures::plane;
-use crate::say;
+use case_words::plane;
 use corkplover::judging;
 use frame::Size;
 use judge::Judgement;
@@ -49,11 +48,11 @@ pub fn judge(
     let p1 = plane(line, p0.next, &mut b1);
     let p2 = plane(line, p1.next, &mut b2);
     if p2.next != line.len() {
-        say::bad_line();
+        answer_lines::bad_line();
         return;
     }
     let l0 = p0.length;
     let l1 = p1.length;
     let l2 = p2.length;
-    say::judgement(judged(way, s, z, a0, a1, a2, &b0[..l0], &b1[..l1], &b2[..l2]));
+    answer_lines::judgement(judged(way, s, z, a0, a1, a2, &b0[..l0], &b1[..l1], &b2[..l2]));
 }

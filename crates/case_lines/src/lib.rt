@@ -5,9 +5,10 @@ ghost use lib.ListN.{replicate};
 
 mod claims;
 mod pictures;
-mod say;
 
 use crate::pictures::FrameTask;
+use case_words::GAP;
+use case_words::RANGES;
 use meter::SampleKind;
 use request::form;
 use request::form::Asked;
@@ -16,19 +17,13 @@ use setting::Way;
 use setting::label::CodeKind;
 use text::reading;
 
-// The byte between two words of a line.
-const GAP: u8 = b' ';
-
-// The names of the two ranges.
-const RANGES: [u8; 3] = *b"0 1";
-
 fn asked(a: Asked) {
     match a {
-        Asked::For(request) => say::answer(request::ask::ask(request)),
+        Asked::For(request) => answer_lines::answer(ask::ask(request)),
         Asked::Fault {
             word: _,
             expected: _,
-        } => say::bad_line(),
+        } => answer_lines::bad_line(),
     }
 }
 
@@ -62,7 +57,7 @@ fn on_words(asked: usize, words: &[u8], edition: u8) {
         12 => pictures::on_image(words, edition),
         13 => pictures::on_frame(words, edition, FrameTask::Judge(Way::Forward)),
         14 => pictures::on_frame(words, edition, FrameTask::Judge(Way::Reverse)),
-        _ => say::bad_line(),
+        _ => answer_lines::bad_line(),
     }
 }
 
@@ -70,7 +65,7 @@ fn on_words(asked: usize, words: &[u8], edition: u8) {
 fn on_line(line: &[u8]) {
     let edition = form::number_word(line, GAP, 1, form::LARGEST_BYTE, form::CLEAR);
     if edition.fault != form::CLEAR {
-        say::bad_line();
+        answer_lines::bad_line();
         return;
     }
     let asked = reading::place_at(line, GAP, 0, b"f r s m y b c p t x F R I J K");

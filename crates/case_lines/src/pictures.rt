@@ -1,55 +1,23 @@
-// Cases on whole frames and on images, by their words from the edition on. Word 9 and those after it are the sizes; then come the planes, which
-// are long, so they are read forward from where they start, and not word by number.
-ghost use mathlib.Core.Path.{_≡_};
-ghost use Prim.Native.Nat.{_≤_};
+// Cases on whole frames and on images, by their words from the edition on.
 ghost use lib.ListN.{length};
 ghost use Rattle.frame.specs.Frame.{inputPicture, outputLayout, PlanesAfter, FrameAfter};
-ghost use Rattle.case_lines.specs.Lines.{sizeWord, pictureWords, stepAt, planeAt, planeOver, oldPlane};
-use crate::GAP;
-use crate::RANGES;
 use crate::claims;
-use crate::say;
+use case_words::GAP;
+use case_words::next_number;
+use case_words::old_contents;
+use case_words::picture_words;
+use case_words::plane;
+use case_words::size_at;
 use corkplover::frames;
 use frame::FrameAnswer;
 use frame::Size;
 use request::form;
-use request::form::ReadNumber;
 use setting::Setting;
 use setting::Way;
 use text::reading;
-use text::reading::Number;
 
 // The longest plane that there is room for.
 pub const ROOM: usize = 20000;
-
-// The largest number of 64 bits.
-const LARGEST: u64 = 18446744073709551615;
-
-// How many samples there are that a word may say.
-const SAMPLES: u64 = sample::PAST_SAMPLES;
-
-// No position of a line: reading stopped at a word that is no number, or too large a one.
-const STOPPED: usize = LARGEST as usize;
-
-// A number, and the position after it.
-struct Step {
-    value: u64,
-    next: usize,
-}
-
-pub struct ReadPlane {
-    pub length: usize,
-    pub next: usize,
-}
-
-// What a line has before its planes, and the first word at fault.
-struct ReadPicture {
-    setting: Setting,
-    width: usize,
-    height: usize,
-    stride: usize,
-    fault: u8,
-}
 
 // What a line asks about a frame.
 pub enum FrameTask {
@@ -62,61 +30,6 @@ enum PictureRequest {
     Convert(Way, Setting, Size),
     Judge(Way, Setting, Size),
     Check(Setting, usize, usize, usize),
-}
-
-fn next_number(line: &[u8], at: usize, most: u64) -> Step
-    ensures { λ r. ⌜ r ≡ stepAt (now (line .entry)) at most ⌝ }
-    ensures { λ r. ⌜ r .value ≤ most ⌝ }
-{
-    match reading::number_from(line, GAP, at, most) {
-        Number::Value(value) => Step {
-            value,
-            next: reading::next_of(line, GAP, at),
-        },
-        Number::Nothing => Step {
-            value: 0,
-            next: STOPPED,
-        },
-    }
-}
-
-// A plane: its length and then its elements.
-pub fn plane(line: &[u8], at: usize, out: &mut [u16]) -> ReadPlane
-    ensures { λ r. ⌜ r ≡ planeAt (now (line .entry)) at (length (now (out .entry))) ⌝ }
-    ensures { λ r. ⌜ r .length ≤ length (now (out .entry)) ⌝ }
-    ensures { λ _. ⌜ now (out .exit) ≡ planeOver (now (line .entry)) at (now (out .entry)) ⌝ }
-{
-    let count = next_number(line, at, out.len() as u64);
-    let length = count.value as usize;
-    let mut next = count.next;
-    let mut i: usize = 0;
-    while i < length {
-        let one = next_number(line, next, form::LARGEST_SAMPLE);
-        out[i] = one.value as u16;
-        next = one.next;
-        i += 1;
-    }
-    ReadPlane { length, next }
-}
-
-// A width, a height or a stride.
-fn size_at(line: &[u8], n: u8, fault: u8) -> ReadNumber
-    ensures { λ r. ⌜ r ≡ sizeWord (now (line .entry)) n fault ⌝ }
-{
-    form::number_word(line, GAP, n, LARGEST, fault)
-}
-
-// Old contents, which must never show.
-fn old_contents(fill: u64, out: &mut [u16])
-    ensures { λ _. ⌜ now (out .exit) ≡ oldPlane fill (length (now (out .entry))) ⌝ }
-{
-    let mut v = fill % SAMPLES;
-    let mut i: usize = 0;
-    while i < out.len() {
-        out[i] = v as u16;
-        v = (v + 7919) % SAMPLES;
-        i += 1;
-    }
 }
 
 fn convert(
@@ -155,10 +68,10 @@ fn convert_and_say(
         (outputLayout z (length (now (b0 .entry))) (length (now (b1 .entry))) (length (now (b2 .entry))))
         (now (b0 .exit)) (now (b1 .exit)) (now (b2 .exit)) ⌝ }
 {
-    say::frame(convert(way, s, z, a0, a1, a2, b0, b1, b2));
-    say::plane(b0);
-    say::plane(b1);
-    say::plane(b2);
+    answer_lines::frame(convert(way, s, z, a0, a1, a2, b0, b1, b2));
+    answer_lines::plane(b0);
+    answer_lines::plane(b1);
+    answer_lines::plane(b2);
 }
 
 // Output planes of the lengths that the line ends with, full of old contents.
@@ -177,7 +90,7 @@ fn convert_into(
     let n2 = next_number(line, n1.next, ROOM as u64);
     let fill = next_number(line, n2.next, form::LARGEST_SAMPLE);
     if fill.next != line.len() {
-        say::bad_line();
+        answer_lines::bad_line();
         return;
     }
     let mut b0 = [0u16; ROOM];
@@ -215,10 +128,10 @@ fn check(
     a2: &[u16],
 ) {
     if at != line.len() {
-        say::bad_line();
+        answer_lines::bad_line();
         return;
     }
-    say::image(frames::image_check(s, width, height, stride, a0, a1, a2));
+    answer_lines::image(frames::image_check(s, width, height, stride, a0, a1, a2));
 }
 
 fn on_planes(line: &[u8], at: usize, request: PictureRequest, a0: &[u16], a1: &[u16], a2: &[u16]) {
@@ -243,29 +156,11 @@ fn on_picture(line: &[u8], first: u8, request: PictureRequest) {
     on_planes(line, p2.next, request, &a0[..l0], &a1[..l1], &a2[..l2]);
 }
 
-// Words 1 to 11: the setting, and the sizes that every picture has.
-fn picture_words(line: &[u8], edition: u8) -> ReadPicture
-    ensures { λ r. ⌜ r ≡ pictureWords (now (line .entry)) edition ⌝ }
-{
-    let w = form::setting_words(edition, line, GAP, &RANGES);
-    let setting = w.setting;
-    let width = size_at(line, 9, w.fault);
-    let height = size_at(line, 10, width.fault);
-    let stride = size_at(line, 11, height.fault);
-    ReadPicture {
-        setting,
-        width: width.value as usize,
-        height: height.value as usize,
-        stride: stride.value as usize,
-        fault: stride.fault,
-    }
-}
-
 pub fn on_frame(line: &[u8], edition: u8, task: FrameTask) {
     let p = picture_words(line, edition);
     let output = size_at(line, 12, p.fault);
     if output.fault != form::CLEAR {
-        say::bad_line();
+        answer_lines::bad_line();
         return;
     }
     let setting = p.setting;
@@ -288,7 +183,7 @@ pub fn on_frame(line: &[u8], edition: u8, task: FrameTask) {
 pub fn on_image(line: &[u8], edition: u8) {
     let p = picture_words(line, edition);
     if p.fault != form::CLEAR {
-        say::bad_line();
+        answer_lines::bad_line();
         return;
     }
     let setting = p.setting;

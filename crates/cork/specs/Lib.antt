@@ -1,3 +1,2 @@
--- What the counter makes of its words before it asks the box, and of a level after it.
+-- What the counter makes of its words before it asks the box.
 pub mod CommandLine
-pub mod Millionths

@@ -1,13 +1,11 @@
 // The box at the counter. It reads its words, asks the box, and says the answer in words with its numbers.
-mod beyond;
-mod output;
-mod saying;
-mod wording;
-
 ghost use mathlib.Core.Path.{_≡_};
 ghost use Prim.Native.Nat.{_≤_, _-_, min};
 ghost use lib.ListN.{length};
 ghost use Rattle.cork.specs.CommandLine.{mostWords, Words, editionSaid};
+use counter::GAP;
+use counter::saying;
+use counter::wording;
 use meter::SampleKind;
 use request::form;
 use request::form::Asked;
@@ -16,9 +14,6 @@ use setting::Call;
 use setting::Way;
 use setting::label::CodeKind;
 use text::reading;
-
-// The byte between two words: no word can hold it.
-const GAP: u8 = 0;
 
 // How many words are read: no request has so many.
 const MOST_WORDS: usize = 20;
@@ -56,7 +51,7 @@ fn edition_said(words: &[u8], names: &[u8]) -> Said
 
 fn asked(words: &[u8], said: Said, a: Asked) {
     match a {
-        Asked::For(request) => saying::answer(request, request::ask::ask(request)),
+        Asked::For(request) => saying::answer(request, ask::ask(request)),
         Asked::Fault { word, expected } => saying::fault(words, said.words, word, expected),
     }
 }

@@ -1,3 +1,2 @@
--- Requests in words, and the box's answers.
+-- Requests in words.
 pub mod Form
-pub mod Answers

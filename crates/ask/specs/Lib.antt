@@ -1,0 +1,2 @@
+-- What the box answers to a request.
+pub mod Answers

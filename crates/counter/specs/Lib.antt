@@ -1,0 +1,2 @@
+-- What the counter makes of a level.
+pub mod Millionths
