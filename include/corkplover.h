@@ -1,18 +1,20 @@
-/* Corkplover: turns R, G, B into luma and chroma or back, by the code points of ITU-T H.273.
+/* Corkplover: turns R, G, B into luma and chroma or back, by the code points of ITU-T H.273, and reads and writes the colour labels
+ * of media files, which have these code points in them.
  *
  * This file is the manual for callers in C99, C11 and C++17. Hold to the types and functions whose names begin with cork_;
  * the functions at the end whose names begin with corkplover_ are how the library is reached, and may change. Link with
  * libcorkplover.a. The library keeps no state, allocates nothing and may be called from any number of threads at once.
  *
- * What a call may be given. Any numbers at all: editions, codes, depths, sizes, strides and samples that make no sense get a
- * refusal with a number and never a crash. What the caller owes the library, since no call can find out, is this:
+ * What a call may be given. Any numbers at all: editions, codes, depths, sizes, strides, samples and bytes of records that make no
+ * sense get a refusal with a number and never a crash. What the caller owes the library, since no call can find out, is this:
  *
  *   1. A plane's pointer and length tell the truth: that many elements may be read there, or written in an output plane. With
- *      length 0 the pointer still has to point somewhere: not null.
- *   2. A plane starts at an address that is aligned for uint16_t.
+ *      length 0 the pointer still has to point somewhere: not null. The same goes for a record of a media file and its bytes.
+ *   2. A plane starts at an address that is aligned for uint16_t. A record may start anywhere.
  *   3. An output plane overlaps no other plane of the call. Planes that are only read may be one and the same: sources, and the
- *      claimed planes of a judgement.
- *   4. Nobody else writes to a plane that is only read, or reads or writes an output plane, while a call runs.
+ *      claimed planes of a judgement; so may records that are only read.
+ *   4. Nobody else writes to a plane or record that is only read, or reads or writes an output plane or a record that is written,
+ *      while a call runs.
  *   5. A bool holds 0 or 1. It always does, unless its byte was written as something other than a bool.
  *   6. For the meter: the processor rounds floats to nearest, as every program starts out.
  *
@@ -126,7 +128,8 @@ static inline cork_source cork_read_back(cork_output output)
 /* ---- Refusals ----
  *
  * They are tested in the order 12, then 1 to 7, 11, 8, 9, 10, and the first that applies is given. So a refused call may have
- * more than one fault, and mending one can bring up the next.
+ * more than one fault, and mending one can bring up the next. The calls on records of media files have the refusals from 20 on, in
+ * the order of their numbers, and no others. 13 to 19 are not in use.
  */
 typedef enum cork_refusal {
     CORK_ACCEPTED = 0,
@@ -141,7 +144,12 @@ typedef enum cork_refusal {
     CORK_PLANE_TOO_SHORT = 9,       /* a plane of either side is shorter than cork_needed_length */
     CORK_SAMPLE_TOO_LARGE = 10,     /* a source sample has more bits than its depth; the answer says where, and which number it is */
     CORK_NOT_FOR_THIS_SETTING = 11, /* the meter without a luma matrix, or the image check without a lossless setting */
-    CORK_EDITION_UNKNOWN = 12       /* the edition is 0 or above 3 */
+    CORK_EDITION_UNKNOWN = 12,      /* the edition is 0 or above 3 */
+    CORK_RECORD_LENGTH = 20,        /* the record, or the room for one, does not have 11 bytes */
+    CORK_RECORD_LETTERS = 21,       /* the first four bytes are not the letters nclx */
+    CORK_RECORD_CODE = 22,          /* the primaries, the transfer or the matrix is above 255, which no code point is */
+    CORK_RECORD_RESERVED_BIT = 23,  /* one of the last byte's seven lower bits is set */
+    CORK_RECORD_UNSPECIFIED = 24    /* none of two records wins, and all that is wrong with the container's is a code 2 */
 } cork_refusal;
 
 /* The refusal in words, for a message; words too for a number that is no refusal. */
@@ -161,6 +169,11 @@ static inline const char *cork_refusal_text(int number)
     case CORK_SAMPLE_TOO_LARGE: return "a source sample is too large for its depth";
     case CORK_NOT_FOR_THIS_SETTING: return "the meter needs a luma matrix, the image check a lossless setting";
     case CORK_EDITION_UNKNOWN: return "the edition is none of 1 (2021), 2 (draft) and 3 (published)";
+    case CORK_RECORD_LENGTH: return "a colour record has 11 bytes, and not any other number";
+    case CORK_RECORD_LETTERS: return "the colour record does not begin with the letters nclx";
+    case CORK_RECORD_CODE: return "a code of the colour record is above 255";
+    case CORK_RECORD_RESERVED_BIT: return "a reserved bit of the colour record is set";
+    case CORK_RECORD_UNSPECIFIED: return "the container's record has a code 2, unspecified, and the stream's is not well formed";
     default: return "not a refusal number";
     }
 }
@@ -283,6 +296,9 @@ uint64_t corkplover_meter_cb(uint64_t setting, uint16_t cb, float *level);
 uint64_t corkplover_meter_cr(uint64_t setting, uint16_t cr, float *level);
 uint64_t corkplover_meter_pixel(uint64_t setting, uint16_t y, uint16_t cb, uint16_t cr, float *y_level, float *cb_level,
                                 float *cr_level);
+uint64_t corkplover_read_label(const uint8_t *record, size_t record_length);
+uint64_t corkplover_write_label(uint8_t primaries, uint8_t transfer, uint8_t matrix, bool full, uint8_t *out, size_t out_length);
+uint64_t corkplover_pick_label(const uint8_t *container, size_t container_length, const uint8_t *stream, size_t stream_length);
 #ifdef __cplusplus
 }
 #endif
@@ -308,9 +324,9 @@ static inline cork_answer cork_answer_(uint64_t packed)
     return answer;
 }
 
-/* ---- Labels ----
+/* ---- Labels of code points ----
  *
- * What an edition of H.273 says of a code point, for each of the 256: assigned a meaning, unspecified (2), or reserved. Where the
+ * What an edition of H.273 says of one code point, for each of the 256: assigned a meaning, unspecified (2), or reserved. Where the
  * edition is none the answer is CORK_NO_LABEL, which has the number of that refusal, so that cork_refusal_text has words for it.
  */
 typedef enum cork_label { CORK_ASSIGNED = 0, CORK_UNSPECIFIED = 1, CORK_RESERVED = 2, CORK_NO_LABEL = 12 } cork_label;
@@ -433,6 +449,77 @@ static inline cork_levels cork_meter_pixel(cork_setting s, uint16_t y, uint16_t 
     levels.answer =
         cork_answer_(corkplover_meter_pixel(cork_word_(s), y, cb, cr, &levels.y, &levels.cb, &levels.cr));
     return levels;
+}
+
+/* ---- Colour labels of media files ----
+ *
+ * A media file says how its colours are to be understood in a record of ISO/IEC 14496-12, the contents of a box 'colr' of type
+ * 'nclx': primaries, transfer and matrix as code points, and a flag for full range. Such a colour label speaks of a whole picture;
+ * it has nothing to do with the labels above, which say of one code point whether it is assigned. The record has 11 bytes:
+ *
+ *   0 to 3    the letters nclx
+ *   4, 5      primaries, the high byte first
+ *   6, 7      transfer, likewise
+ *   8, 9      matrix, likewise
+ *   10        the flag in the highest bit, and seven reserved bits, which are 0
+ *
+ * No call looks at what a code means: a record with reserved codes is read and written as any other, and so is one with code 2,
+ * unspecified. What is served of a label is for the calls that take a setting.
+ */
+#define CORK_RECORD_BYTES 11
+#define CORK_LABEL_PART_BYTES 7 /* a record's last bytes, which are the label itself */
+
+typedef struct cork_colour_label {
+    uint8_t primaries;
+    uint8_t transfer;
+    uint8_t matrix;
+    bool full;
+} cork_colour_label;
+
+/* Reads a record. Accepted: the label, by cork_label_in. It is accepted if and only if it is what cork_write_label writes of that
+ * label, byte for byte. The record is only read. Refusals: 20, 21, 22, 23. */
+static inline cork_answer cork_read_label(const uint8_t *record, size_t length)
+{
+    return cork_answer_(corkplover_read_label(record, length));
+}
+
+/* The label that was read. Of an accepted cork_read_label. */
+static inline cork_colour_label cork_label_in(cork_answer answer)
+{
+    cork_colour_label label = {(uint8_t)(answer.packed >> 16), (uint8_t)(answer.packed >> 32), (uint8_t)(answer.packed >> 48),
+                               (answer.packed >> 8 & 0xff) != 0};
+    return label;
+}
+
+/* Writes the record of a label; every label has one. length is the number of bytes at out and has to be CORK_RECORD_BYTES: any other
+ * is refused with 20, and then each of these bytes is 0. */
+static inline cork_answer cork_write_label(cork_colour_label label, uint8_t *out, size_t length)
+{
+    return cork_answer_(corkplover_write_label(label.primaries, label.transfer, label.matrix, label.full, out, length));
+}
+
+/* Picks one of two records, where the container has one and the stream inside it another. The container's wins if cork_read_label
+ * accepts it and none of its codes is 2; else the stream's wins if cork_read_label accepts it, with a code 2 or without. Accepted:
+ * cork_picked_stream and cork_picked_part. Where none wins the refusal is the container's own, 20 to 23, and 24 where it has none.
+ * A file that lacks one of the two has a record of length 0 there, which is refused with 20; but see 1 at the top on its pointer. */
+static inline cork_answer cork_pick_label(const uint8_t *container, size_t container_length, const uint8_t *stream,
+                                          size_t stream_length)
+{
+    return cork_answer_(corkplover_pick_label(container, container_length, stream, stream_length));
+}
+
+/* Whether the stream's record won, and not the container's. Of an accepted cork_pick_label. */
+static inline bool cork_picked_stream(cork_answer answer)
+{
+    return (answer.packed >> 8 & 0xff) == 1;
+}
+
+/* The last CORK_LABEL_PART_BYTES of the record that won, where they stand in it; NULL where none won. container and stream are those of
+ * the call. Of every cork_pick_label. */
+static inline const uint8_t *cork_picked_part(cork_answer answer, const uint8_t *container, const uint8_t *stream)
+{
+    const uint8_t *winner = cork_picked_stream(answer) ? stream : container;
+    return cork_accepted(answer) ? winner + (CORK_RECORD_BYTES - CORK_LABEL_PART_BYTES) : NULL;
 }
 
 #undef CORK_SOURCE_PARAMETERS_

@@ -1,8 +1,8 @@
-"""Corkplover for Python: R, G, B into luma and chroma or back.
+"""Corkplover for Python: R, G, B into luma and chroma or back, and the colour labels of media files.
 
 The manual is include/corkplover.h; names, answers and refusals are the same here, and a refused call raises Refusal. What a
-caller owes the library cannot be got wrong here: numbers are tested before they are handed on, and every plane that the library
-sees is a buffer of this module's own, so that none overlaps another and every length is true.
+caller owes the library cannot be got wrong here: numbers are tested before they are handed on, and every plane or record that the
+library sees is a buffer of this module's own, so that none overlaps another and every length is true.
 
 The shared object is the one that the variable CORKPLOVER_LIBRARY names, or else libcorkplover.so beside this file.
 """
@@ -19,28 +19,42 @@ Levels = namedtuple("Levels", "y cb cr")
 # Where a claimed frame is wrong: row and column of the first wrong pixel, and how many pixels are wrong in the whole picture.
 Difference = namedtuple("Difference", "row column wrong")
 
+# What an edition says of one code point. What a media file says of its picture is a ColourLabel.
 ASSIGNED, UNSPECIFIED, RESERVED = range(3)
 
-_TEXTS = (
-    "accepted",
-    "the matrix code is reserved",
-    "the matrix code is 2, unspecified",
-    "the matrix code is known and not served",
-    "the primaries code is reserved",
-    "the transfer code is reserved",
-    "a depth is not served",
-    "depths or range flags do not agree with the matrix",
-    "the width, the height or a stride is not served",
-    "a plane is too short for the picture",
-    "a source sample is too large for its depth",
-    "the meter needs a luma matrix, the image check a lossless setting",
-    "the edition is none of 1 (2021), 2 (draft) and 3 (published)",
-)
+# How many bytes a colour record of a media file has, nclx of ISO/IEC 14496-12, and how many of them, the last, are the label itself.
+RECORD_BYTES, LABEL_PART_BYTES = 11, 7
+
+ColourLabel = namedtuple("ColourLabel", "primaries transfer matrix full")
+# Which of two records won, CONTAINER or STREAM, and its last bytes, which are the label itself.
+Picked = namedtuple("Picked", "winner part")
+CONTAINER, STREAM = "container", "stream"
+
+_TEXTS = {
+    0: "accepted",
+    1: "the matrix code is reserved",
+    2: "the matrix code is 2, unspecified",
+    3: "the matrix code is known and not served",
+    4: "the primaries code is reserved",
+    5: "the transfer code is reserved",
+    6: "a depth is not served",
+    7: "depths or range flags do not agree with the matrix",
+    8: "the width, the height or a stride is not served",
+    9: "a plane is too short for the picture",
+    10: "a source sample is too large for its depth",
+    11: "the meter needs a luma matrix, the image check a lossless setting",
+    12: "the edition is none of 1 (2021), 2 (draft) and 3 (published)",
+    20: "a colour record has 11 bytes, and not any other number",
+    21: "the colour record does not begin with the letters nclx",
+    22: "a code of the colour record is above 255",
+    23: "a reserved bit of the colour record is set",
+    24: "the container's record has a code 2, unspecified, and the stream's is not well formed",
+}
 
 
 def refusal_text(number):
     """The refusal in words."""
-    return _TEXTS[number] if 0 <= number < len(_TEXTS) else "not a refusal number"
+    return _TEXTS.get(number, "not a refusal number")
 
 
 class Refusal(Exception):
@@ -138,6 +152,17 @@ _exports = {
 }
 
 
+_BYTES = [ctypes.c_void_p, _SIZE]
+_records = {
+    name: _export(name, ctypes.c_uint64, parameters)
+    for name, parameters in {
+        "read_label": _BYTES,
+        "write_label": [_BYTE] * 3 + [ctypes.c_bool] + _BYTES,
+        "pick_label": _BYTES + _BYTES,
+    }.items()
+}
+
+
 def _word(s):
     """A setting as the library takes it: a byte for each code and depth, from the lowest byte up, then a bit for each flag, and the edition in
     the highest byte."""
@@ -146,12 +171,15 @@ def _word(s):
     return int.from_bytes([*codes, flags, _number(s.edition, 8)], "little")
 
 
-def _call(name, s, *more):
+def _accepted(packed):
     """The packed answer where it is accepted."""
-    packed = _exports[name](_word(Setting(*s)), *more)
     if packed & 0xFF:
         raise Refusal(packed)
     return packed
+
+
+def _call(name, s, *more):
+    return _accepted(_exports[name](_word(Setting(*s)), *more))
 
 
 def _samples(pixel):
@@ -271,3 +299,39 @@ def meter_pixel(s, ycc):
     y, cb, cr = ctypes.c_float(), ctypes.c_float(), ctypes.c_float()
     _call("meter_pixel", s, *_samples(ycc), ctypes.byref(y), ctypes.byref(cb), ctypes.byref(cr))
     return Levels(y.value, cb.value, cr.value)
+
+
+def _record(record):
+    """The record as a buffer of our own, of which the library is given the address and the length."""
+    view = memoryview(record)
+    if view.format != "B" or view.ndim != 1:
+        raise TypeError("a record is bytes")
+    return (ctypes.c_uint8 * len(view)).from_buffer_copy(view.tobytes())
+
+
+def _record_call(name, first, *buffers):
+    """The numbers of a call, and after them each buffer as its address and its length."""
+    lent = [word for buffer in buffers for word in (ctypes.addressof(buffer), len(buffer))]
+    return _accepted(_records[name](*first, *lent))
+
+
+def read_label(record):
+    """The ColourLabel in a colour record: bytes, or any one-dimensional buffer of them. Refusals: 20 to 23."""
+    packed = _record_call("read_label", [], _record(record))
+    return ColourLabel(packed >> 16 & 0xFF, packed >> 32 & 0xFF, packed >> 48 & 0xFF, packed >> 8 & 0xFF != 0)
+
+
+def write_label(label):
+    """The colour record of a label, as bytes; every label has one."""
+    primaries, transfer, matrix, full = label
+    record = (ctypes.c_uint8 * RECORD_BYTES)()
+    _record_call("write_label", [_number(primaries, 8), _number(transfer, 8), _number(matrix, 8), _flag(full)], record)
+    return bytes(record)
+
+
+def pick_label(container, stream):
+    """The container's record or the stream's, as a Picked: the container's if it can be read and none of its codes is 2, else the stream's if
+    it can be read. Where neither wins, the refusal is the container's own, or 24 where it has none."""
+    buffers = _record(container), _record(stream)
+    won = _record_call("pick_label", [], *buffers) >> 8 & 0xFF
+    return Picked((CONTAINER, STREAM)[won], bytes(buffers[won])[-LABEL_PART_BYTES:])

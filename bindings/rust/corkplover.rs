@@ -1,6 +1,6 @@
-//! Corkplover for Rust: R, G, B into luma and chroma or back. The manual is `include/corkplover.h`; names, answers and refusals are
-//! the same here. Whatever a caller owes the library is a matter of types here: slices know their lengths, and an output plane is
-//! borrowed for writing, so that it overlaps nothing.
+//! Corkplover for Rust: R, G, B into luma and chroma or back, and the colour labels of media files. The manual is
+//! `include/corkplover.h`; names, answers and refusals are the same here. Whatever a caller owes the library is a matter of types here:
+//! slices know their lengths, and an output plane is borrowed for writing, so that it overlaps nothing.
 //!
 //! Compile as a crate of its own, with the folder of libcorkplover.a in the search path:
 //! `rustc -O --edition 2021 --crate-type rlib -L native=FOLDER corkplover.rs`
@@ -41,6 +41,7 @@ pub struct Output<'a> {
     pub stride: usize,
 }
 
+/// What an edition says of one code point. What a media file says of its picture is a `ColourLabel`.
 #[derive(Clone, Copy, Debug, PartialEq, Eq)]
 pub enum Label {
     Assigned,
@@ -74,25 +75,56 @@ pub struct Levels {
     pub cr: f32,
 }
 
-const TEXTS: [&str; 13] = [
-    "accepted",
-    "the matrix code is reserved",
-    "the matrix code is 2, unspecified",
-    "the matrix code is known and not served",
-    "the primaries code is reserved",
-    "the transfer code is reserved",
-    "a depth is not served",
-    "depths or range flags do not agree with the matrix",
-    "the width, the height or a stride is not served",
-    "a plane is too short for the picture",
-    "a source sample is too large for its depth",
-    "the meter needs a luma matrix, the image check a lossless setting",
-    "the edition is none of 1 (2021), 2 (draft) and 3 (published)",
+/// How many bytes a colour record of a media file has, and how many of them, the last, are the label itself.
+pub const RECORD_BYTES: usize = 11;
+pub const LABEL_PART_BYTES: usize = 7;
+
+/// What a media file's colour record, `nclx` of ISO/IEC 14496-12, says of the picture.
+#[derive(Clone, Copy, Debug, PartialEq, Eq)]
+pub struct ColourLabel {
+    pub primaries: u8,
+    pub transfer: u8,
+    pub matrix: u8,
+    pub full: bool,
+}
+
+#[derive(Clone, Copy, Debug, PartialEq, Eq)]
+pub enum Winner {
+    Container,
+    Stream,
+}
+
+/// The record that won, and its last bytes, which are the label itself.
+#[derive(Clone, Copy, Debug, PartialEq, Eq)]
+pub struct Picked<'a> {
+    pub winner: Winner,
+    pub part: &'a [u8; LABEL_PART_BYTES],
+}
+
+const TEXTS: [(u8, &str); 18] = [
+    (0, "accepted"),
+    (1, "the matrix code is reserved"),
+    (2, "the matrix code is 2, unspecified"),
+    (3, "the matrix code is known and not served"),
+    (4, "the primaries code is reserved"),
+    (5, "the transfer code is reserved"),
+    (6, "a depth is not served"),
+    (7, "depths or range flags do not agree with the matrix"),
+    (8, "the width, the height or a stride is not served"),
+    (9, "a plane is too short for the picture"),
+    (10, "a source sample is too large for its depth"),
+    (11, "the meter needs a luma matrix, the image check a lossless setting"),
+    (12, "the edition is none of 1 (2021), 2 (draft) and 3 (published)"),
+    (20, "a colour record has 11 bytes, and not any other number"),
+    (21, "the colour record does not begin with the letters nclx"),
+    (22, "a code of the colour record is above 255"),
+    (23, "a reserved bit of the colour record is set"),
+    (24, "the container's record has a code 2, unspecified, and the stream's is not well formed"),
 ];
 
 /// The refusal in words.
 pub fn refusal_text(number: u8) -> &'static str {
-    TEXTS.get(usize::from(number)).copied().unwrap_or("not a refusal number")
+    TEXTS.iter().find(|text| text.0 == number).map_or("not a refusal number", |text| text.1)
 }
 
 // The library's compiler knows nothing of these lines; tests/clients/run compares them with its source and calls each.
@@ -121,6 +153,9 @@ extern "C" {
     fn corkplover_meter_cb(setting: u64, cb: u16, level: *mut f32) -> u64;
     fn corkplover_meter_cr(setting: u64, cr: u16, level: *mut f32) -> u64;
     fn corkplover_meter_pixel(setting: u64, y: u16, cb: u16, cr: u16, y_level: *mut f32, cb_level: *mut f32, cr_level: *mut f32) -> u64;
+    fn corkplover_read_label(record: *const u8, record_length: usize) -> u64;
+    fn corkplover_write_label(primaries: u8, transfer: u8, matrix: u8, full: bool, out: *mut u8, out_length: usize) -> u64;
+    fn corkplover_pick_label(container: *const u8, container_length: usize, stream: *const u8, stream_length: usize) -> u64;
 }
 
 /// A setting as the library takes it: a byte for each code and depth, from the lowest byte up, then a bit for each flag, and the edition in
@@ -257,4 +292,32 @@ pub fn meter_pixel(s: &Setting, [y, cb, cr]: [u16; 3]) -> Result<Levels, Refusal
     let mut levels = Levels { y: 0.0, cb: 0.0, cr: 0.0 };
     let packed = call!(corkplover_meter_pixel, s, y, cb, cr, &mut levels.y, &mut levels.cb, &mut levels.cr);
     accepted(packed).map(|_| levels)
+}
+
+/// The label in a colour record. Refusals: 20 to 23.
+pub fn read_label(record: &[u8]) -> Result<ColourLabel, Refusal> {
+    let packed = accepted(unsafe { corkplover_read_label(record.as_ptr(), record.len()) })?;
+    let [_, full, primaries, _, transfer, _, matrix, _] = packed.to_le_bytes();
+    Ok(ColourLabel { primaries, transfer, matrix, full: full != 0 })
+}
+
+/// The colour record of a label; every label has one.
+pub fn write_label(label: ColourLabel) -> [u8; RECORD_BYTES] {
+    let ColourLabel { primaries, transfer, matrix, full } = label;
+    let mut record = [0; RECORD_BYTES];
+    let packed = unsafe { corkplover_write_label(primaries, transfer, matrix, full, record.as_mut_ptr(), record.len()) };
+    assert_eq!(packed, 0, "a record of the right length is written");
+    record
+}
+
+/// The container's record or the stream's: the container's if it can be read and none of its codes is 2, else the stream's if it can be
+/// read. Where neither wins, the refusal is the container's own, or 24 where it has none.
+pub fn pick_label<'a>(container: &'a [u8], stream: &'a [u8]) -> Result<Picked<'a>, Refusal> {
+    let packed = unsafe { corkplover_pick_label(container.as_ptr(), container.len(), stream.as_ptr(), stream.len()) };
+    let (winner, record) = match (accepted(packed)? >> 8) as u8 {
+        0 => (Winner::Container, container),
+        _ => (Winner::Stream, stream),
+    };
+    let part = record[RECORD_BYTES - LABEL_PART_BYTES..].try_into().expect("a record that wins has 11 bytes");
+    Ok(Picked { winner, part })
 }

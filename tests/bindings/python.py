@@ -24,13 +24,24 @@ RGB = planes([255, 0, 0, 999], [0, 255, 0, 999], [0, 0, 255, 999])
 YCC = planes([63, 127, 63], [129, 511, 129], [511, 256, 1])
 
 
-class Answers(unittest.TestCase):
+# The record of a picture by Rec. 2100 PQ, narrow, and that of one by sRGB, full
+HDR = b"nclx\x00\x09\x00\x10\x00\x09\x00"
+SRGB = b"nclx\x00\x01\x00\x0d\x00\x06\x80"
+
+
+def with_byte(record, place, byte):
+    return record[:place] + bytes([byte]) + record[place + 1 :]
+
+
+class Refusing(unittest.TestCase):
     def refused(self, number, plane, sample, call, *words):
         with self.assertRaises(cork.Refusal) as caught:
             call(*words)
         r = caught.exception
         self.assertEqual((r.number, r.plane, r.row, r.column, r.sample), (number, plane, 0, 0, sample))
 
+
+class Answers(Refusing):
     def test_pixels(self):
         self.assertEqual(cork.forward_pixel(LOSSLESS, (255, 0, 0)), (63, 129, 511))
         self.assertEqual(cork.reverse_pixel(LOSSLESS, (63, 129, 511)), (255, 0, 0))
@@ -145,6 +156,65 @@ class Answers(unittest.TestCase):
         self.assertEqual(cork.refusal_text(9), "a plane is too short for the picture")
         self.assertEqual(cork.refusal_text(12), "the edition is none of 1 (2021), 2 (draft) and 3 (published)")
         self.assertEqual(cork.refusal_text(13), "not a refusal number")
+
+
+class ColourLabels(Refusing):
+    def test_labels_and_records(self):
+        for record, numbers in ((HDR, (9, 16, 9, False)), (SRGB, (1, 13, 6, True))):
+            label = cork.read_label(record)
+            self.assertIs(type(label), cork.ColourLabel)
+            self.assertEqual((label.primaries, label.transfer, label.matrix, label.full), numbers)
+            self.assertIs(type(label.full), bool)
+            self.assertEqual(cork.write_label(label), record)
+            self.assertEqual(cork.write_label(numbers), record)
+        self.assertEqual(cork.read_label(cork.write_label((255, 2, 0, True))), (255, 2, 0, True))
+        self.assertEqual((cork.RECORD_BYTES, cork.LABEL_PART_BYTES), (11, 7))
+
+    def test_records_that_are_refused(self):
+        self.refused(20, 0, 0, cork.read_label, b"")
+        self.refused(20, 0, 0, cork.read_label, HDR[:-1])
+        self.refused(20, 0, 0, cork.read_label, HDR + SRGB)
+        self.refused(21, 0, 0, cork.read_label, with_byte(HDR, 3, ord("c")))
+        self.refused(22, 0, 0, cork.read_label, with_byte(HDR, 6, 1))
+        self.refused(23, 0, 0, cork.read_label, with_byte(SRGB, 10, 0x81))
+        self.refused(22, 0, 0, cork.read_label, with_byte(with_byte(HDR, 4, 9), 10, 1))
+        with self.assertRaises(cork.Refusal) as caught:
+            cork.read_label(b"nclc" + HDR[4:])
+        self.assertEqual(str(caught.exception), "refused 21: the colour record does not begin with the letters nclx")
+        self.assertEqual([cork.refusal_text(number) for number in (19, 25)], ["not a refusal number"] * 2)
+
+    def test_picks(self):
+        unspecified, broken = with_byte(HDR, 7, 2), with_byte(HDR, 10, 4)
+        picked = cork.pick_label(HDR, SRGB)
+        self.assertIs(type(picked), cork.Picked)
+        self.assertEqual((picked.winner, picked.part), (cork.CONTAINER, HDR[4:]))
+        self.assertEqual(cork.pick_label(HDR, b""), (cork.CONTAINER, HDR[4:]))
+        for container in unspecified, broken, b"":
+            self.assertEqual(cork.pick_label(container, SRGB), (cork.STREAM, SRGB[4:]))
+            self.assertEqual(cork.pick_label(container, unspecified), (cork.STREAM, unspecified[4:]))
+        self.refused(20, 0, 0, cork.pick_label, b"", b"")
+        self.refused(23, 0, 0, cork.pick_label, broken, b"")
+        self.refused(24, 0, 0, cork.pick_label, unspecified, broken)
+
+    def test_buffers_of_bytes(self):
+        """Any of them, and a part of a larger one, is read as bytes are; what is no buffer of bytes never reaches the library."""
+        for record in bytearray(HDR), memoryview(HDR), array("B", HDR), memoryview(b"\0" + HDR)[1:], memoryview(HDR[::-1])[::-1]:
+            self.assertEqual(cork.read_label(record), (9, 16, 9, False))
+            self.assertEqual(cork.pick_label(record, record).part, HDR[4:])
+        for wrong in ("nclx", list(HDR), array("H", [1]), memoryview(bytes(12)).cast("B", [3, 4]), 11, None):
+            self.assertRaises(TypeError, cork.read_label, wrong)
+            self.assertRaises(TypeError, cork.pick_label, HDR, wrong)
+
+    def test_numbers_are_not_cut_down(self):
+        for wrong in (256, -1):
+            for place in range(3):
+                codes = [9, 16, 9]
+                codes[place] = wrong
+                self.assertRaises(ValueError, cork.write_label, (*codes, True))
+        for wrong in (1, 0, None):
+            self.assertRaises(TypeError, cork.write_label, (9, 16, 9, wrong))
+        self.assertRaises(TypeError, cork.write_label, (9, True, 9, True))
+        self.assertRaises(ValueError, cork.write_label, (9, 16, 9))
 
 
 class Duties(unittest.TestCase):

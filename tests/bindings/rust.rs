@@ -176,3 +176,64 @@ fn labels_and_texts() {
     assert_eq!(refusal_text(9), "a plane is too short for the picture");
     assert_eq!(refusal_text(13), "not a refusal number");
 }
+
+/// The record of a picture by Rec. 2100 PQ, narrow, and that of one by sRGB, full.
+const HDR: [u8; 11] = *b"nclx\x00\x09\x00\x10\x00\x09\x00";
+const SRGB: [u8; 11] = *b"nclx\x00\x01\x00\x0d\x00\x06\x80";
+
+fn with_byte(mut record: [u8; 11], place: usize, byte: u8) -> [u8; 11] {
+    record[place] = byte;
+    record
+}
+
+#[test]
+fn colour_labels() {
+    let hdr = ColourLabel { primaries: 9, transfer: 16, matrix: 9, full: false };
+    let srgb = ColourLabel { primaries: 1, transfer: 13, matrix: 6, full: true };
+    for (label, record) in [(hdr, HDR), (srgb, SRGB)] {
+        assert_eq!(read_label(&record), Ok(label));
+        assert_eq!(write_label(label), record);
+    }
+    let any = ColourLabel { primaries: 255, transfer: 2, matrix: 0, full: true };
+    assert_eq!(read_label(&write_label(any)), Ok(any));
+    assert_eq!((RECORD_BYTES, LABEL_PART_BYTES), (11, 7));
+}
+
+#[test]
+fn records_that_are_refused() {
+    for (record, number) in [
+        (&b""[..], 20),
+        (&HDR[..10], 20),
+        (&[HDR, SRGB].concat(), 20),
+        (&with_byte(HDR, 3, b'c'), 21),
+        (&with_byte(HDR, 6, 1), 22),
+        (&with_byte(SRGB, 10, 0x81), 23),
+        (&with_byte(with_byte(HDR, 4, 9), 10, 1), 22),
+    ] {
+        assert_eq!(read_label(record), Err(refused(number)), "{:?}", record);
+    }
+    assert_eq!(refusal_text(21), "the colour record does not begin with the letters nclx");
+    assert_eq!([19, 25].map(refusal_text), ["not a refusal number"; 2]);
+}
+
+#[test]
+fn picks() {
+    let (open, broken) = (with_byte(HDR, 7, 2), with_byte(HDR, 10, 4));
+    let container = |record: &[u8; 11]| (Winner::Container, record[4..].to_vec());
+    let stream = |record: &[u8; 11]| (Winner::Stream, record[4..].to_vec());
+    for (first, second, won) in [
+        (&HDR[..], &SRGB[..], Ok(container(&HDR))),
+        (&HDR, b"", Ok(container(&HDR))),
+        (&open, &SRGB, Ok(stream(&SRGB))),
+        (&broken, &SRGB, Ok(stream(&SRGB))),
+        (b"", &open, Ok(stream(&open))),
+        (&open, &open, Ok(stream(&open))),
+        (b"", b"", Err(refused(20))),
+        (&broken, b"", Err(refused(23))),
+        (&open, &broken, Err(refused(24))),
+    ] {
+        assert_eq!(pick_label(first, second).map(|picked| (picked.winner, picked.part.to_vec())), won, "{:?} {:?}", first, second);
+    }
+    let record = SRGB;
+    assert_eq!(pick_label(&open, &record).unwrap().part.as_ptr(), record[4..].as_ptr());
+}

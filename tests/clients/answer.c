@@ -144,6 +144,51 @@ static void judgement_case(char letter)
     free_case(&c);
 }
 
+static void print_bytes(const char *word, const uint8_t *bytes, size_t length)
+{
+    printf("%s", word);
+    for (size_t i = 0; i < length; i++) printf(" %u", bytes[i]);
+    printf("\n");
+}
+
+static void read_case(void)
+{
+    record r = read_record();
+    cork_answer a = cork_read_label(r.bytes, r.length);
+    cork_colour_label label = cork_label_in(a);
+    if (cork_accepted(a))
+        printf("label %u %u %u %u\n", label.primaries, label.transfer, label.matrix, label.full);
+    else
+        print_refusal(a);
+    free(r.bytes);
+}
+
+static void write_case(void)
+{
+    cork_colour_label label = read_colour_label();
+    record r = new_record(CORK_RECORD_BYTES);
+    if (filled) memset(r.bytes, 0xa5, r.length);
+    cork_answer a = cork_write_label(label, r.bytes, r.length);
+    if (cork_accepted(a))
+        print_bytes("record", r.bytes, r.length);
+    else
+        print_refusal(a);
+    free(r.bytes);
+}
+
+static void pick_case(void)
+{
+    record container = read_record(), stream = read_record();
+    cork_answer a = cork_pick_label(container.bytes, container.length, stream.bytes, stream.length);
+    const uint8_t *part = cork_picked_part(a, container.bytes, stream.bytes);
+    if (part)
+        print_bytes(cork_picked_stream(a) ? "stream" : "container", part, CORK_LABEL_PART_BYTES);
+    else
+        print_refusal(a);
+    free(container.bytes);
+    free(stream.bytes);
+}
+
 int main(int count, char **words)
 {
     filled = !(count > 1 && strcmp(words[1], "unfilled") == 0);
@@ -157,6 +202,9 @@ int main(int count, char **words)
         case 'F': case 'R': frame_case_of(letter); break;
         case 'I': image_case(); break;
         case 'J': case 'K': judgement_case(letter); break;
+        case 'N': read_case(); break;
+        case 'W': write_case(); break;
+        case 'P': pick_case(); break;
         default: stop("not a case");
         }
     }

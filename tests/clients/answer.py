@@ -30,6 +30,13 @@ class Words:
             planes.append(array("H", [self.number() for _ in range(length)]))
         return cork.Source(planes, stride)
 
+    def record(self):
+        length = self.number()
+        return bytes(self.number() for _ in range(length))
+
+    def colour_label(self):
+        return cork.ColourLabel(self.number(), self.number(), self.number(), bool(self.number()))
+
 
 def bits(level):
     return "%08x" % struct.unpack("<I", struct.pack("<f", level))
@@ -96,6 +103,19 @@ def judgement(call):
     return run
 
 
+def read(w):
+    return "label %d %d %d %d" % cork.read_label(w.record())
+
+
+def spaced(word, record):
+    return " ".join([word, *map(str, record)])
+
+
+def pick(w):
+    container, stream = w.record(), w.record()
+    return spaced(*cork.pick_label(container, stream))
+
+
 CALLS = {
     "p": label(cork.primaries_label),
     "t": label(cork.transfer_label),
@@ -112,6 +132,9 @@ CALLS = {
     "I": image,
     "J": judgement(cork.judge_forward),
     "K": judgement(cork.judge_reverse),
+    "N": read,
+    "W": lambda w: spaced("record", cork.write_label(w.colour_label())),
+    "P": pick,
 }
 
 for line in sys.stdin:

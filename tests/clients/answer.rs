@@ -35,11 +35,18 @@ impl Words<'_> {
         [self.number(), self.number(), self.number()]
     }
 
+    fn counted<N: std::str::FromStr>(&mut self) -> Vec<N> {
+        let length: usize = self.number();
+        (0..length).map(|_| self.number()).collect()
+    }
+
     fn planes(&mut self) -> [Vec<u16>; 3] {
-        [(); 3].map(|_| {
-            let length: usize = self.number();
-            (0..length).map(|_| self.number()).collect()
-        })
+        [(); 3].map(|_| self.counted())
+    }
+
+    /// The fields are read in the order in which they stand here.
+    fn colour_label(&mut self) -> ColourLabel {
+        ColourLabel { primaries: self.number(), transfer: self.number(), matrix: self.number(), full: self.flag() }
     }
 }
 
@@ -68,6 +75,10 @@ fn levels(l: Levels) -> String {
 
 fn label(l: Label) -> String {
     format!("{:?}", l).to_lowercase()
+}
+
+fn spaced<N: ToString>(row: &[N]) -> String {
+    row.iter().map(N::to_string).collect::<Vec<String>>().join(" ")
 }
 
 fn borrowed(planes: &[Vec<u16>; 3], stride: usize) -> Source<'_> {
@@ -99,8 +110,7 @@ fn frame(w: &mut Words, forward: bool) -> String {
     let convert = if forward { forward_frame } else { reverse_frame };
     let mut lines = said(convert(&s, width, height, borrowed(&source, stride), &mut output), |()| String::from("done"));
     for plane in planes {
-        let words: Vec<String> = plane.iter().map(u16::to_string).collect();
-        lines = lines + "\n" + &words.join(" ");
+        lines = lines + "\n" + &spaced(&plane);
     }
     lines
 }
@@ -113,6 +123,15 @@ fn judgement(w: &mut Words, forward: bool) -> String {
         None => String::from("agrees"),
         Some(d) => format!("differs row {} column {} wrong {}", d.row, d.column, d.wrong),
     })
+}
+
+fn colour_label(l: ColourLabel) -> String {
+    format!("label {} {} {} {}", l.primaries, l.transfer, l.matrix, u8::from(l.full))
+}
+
+fn pick(w: &mut Words) -> String {
+    let (container, stream) = (w.counted(), w.counted());
+    said(pick_label(&container, &stream), |picked| format!("{:?} {}", picked.winner, spaced(picked.part)).to_lowercase())
 }
 
 fn answer(line: &str) -> String {
@@ -134,6 +153,9 @@ fn answer(line: &str) -> String {
         "I" => image(w),
         "J" => judgement(w, true),
         "K" => judgement(w, false),
+        "N" => said(read_label(&w.counted::<u8>()), colour_label),
+        "W" => format!("record {}", spaced(&write_label(w.colour_label()))),
+        "P" => pick(w),
         other => panic!("'{}' is not a case", other),
     }
 }

@@ -116,6 +116,36 @@ static inline cork_answer convert_frame(const frame_case *c, cork_source source,
     return cork_reverse_frame(c->setting, c->width, c->height, source, output);
 }
 
+/* A record of a media file, in as many bytes as it has and no more; see new_plane. */
+typedef struct record {
+    uint8_t *bytes;
+    size_t length;
+} record;
+
+static inline record new_record(size_t length)
+{
+    record r = {(uint8_t *)malloc(length ? length : 1), length};
+    if (!r.bytes) stop("no memory");
+    return r;
+}
+
+static inline record read_record(void)
+{
+    record r = new_record((size_t)number());
+    for (size_t i = 0; i < r.length; i++) r.bytes[i] = (uint8_t)number();
+    return r;
+}
+
+static inline cork_colour_label read_colour_label(void)
+{
+    cork_colour_label label;
+    label.primaries = (uint8_t)number();
+    label.transfer = (uint8_t)number();
+    label.matrix = (uint8_t)number();
+    label.full = number() != 0;
+    return label;
+}
+
 #define PLANES(p) (p).plane[0], (p).length[0], (p).plane[1], (p).length[1], (p).plane[2], (p).length[2]
 
 /* By the library's own functions, so that a test has a say in what the count held before. */

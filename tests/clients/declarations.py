@@ -11,14 +11,15 @@ import sys
 
 import corkplover
 
-RATTLE = {"u8": "u8", "u16": "u16", "u64": "u64", "usize": "usize", "&[u16]": "*u16 usize", "&mut [u16]": "*mut-u16 usize",
-          "&mut f32": "*f32", "&mut u64": "*u64"}
-C = {"uint8_t": "u8", "uint16_t": "u16", "uint64_t": "u64", "size_t": "usize", "const uint16_t *": "*u16", "uint16_t *": "*mut-u16",
-     "float *": "*f32", "uint64_t *": "*u64"}
-RUST = {"u8": "u8", "u16": "u16", "u64": "u64", "usize": "usize", "*const u16": "*u16", "*mut u16": "*mut-u16", "*mut f32": "*f32",
-        "*mut u64": "*u64"}
-# to Python a size and any other number of 64 bits are one type, and so are pointers to numbers that are read and that are written
-PYTHON = {ctypes.c_uint8: "u8", ctypes.c_uint16: "u16", ctypes.c_uint64: "u64", ctypes.c_void_p: "pointer",
+RATTLE = {"u8": "u8", "u16": "u16", "u64": "u64", "usize": "usize", "bool": "bool", "&[u8]": "*u8 usize", "&mut [u8]": "*mut-u8 usize",
+          "&[u16]": "*u16 usize", "&mut [u16]": "*mut-u16 usize", "&mut f32": "*f32", "&mut u64": "*u64"}
+# the preprocessor may leave a bool as _Bool
+C = {"uint8_t": "u8", "uint16_t": "u16", "uint64_t": "u64", "size_t": "usize", "bool": "bool", "_Bool": "bool", "const uint8_t *": "*u8",
+     "uint8_t *": "*mut-u8", "const uint16_t *": "*u16", "uint16_t *": "*mut-u16", "float *": "*f32", "uint64_t *": "*u64"}
+RUST = {"u8": "u8", "u16": "u16", "u64": "u64", "usize": "usize", "bool": "bool", "*const u8": "*u8", "*mut u8": "*mut-u8",
+        "*const u16": "*u16", "*mut u16": "*mut-u16", "*mut f32": "*f32", "*mut u64": "*u64"}
+# to Python a size and any other number of 64 bits are one type, and so are pointers to what is read and what is written, bytes or samples
+PYTHON = {ctypes.c_uint8: "u8", ctypes.c_uint16: "u16", ctypes.c_uint64: "u64", ctypes.c_bool: "bool", ctypes.c_void_p: "pointer",
           ctypes.POINTER(ctypes.c_float): "*f32", ctypes.POINTER(ctypes.c_uint64): "*u64"}
 
 
@@ -59,7 +60,7 @@ def of_rust():
 
 
 def of_python():
-    functions = list(corkplover._labels.values()) + list(corkplover._exports.values())
+    functions = [*corkplover._labels.values(), *corkplover._exports.values(), *corkplover._records.values()]
     return {f.__name__: " ".join(PYTHON.get(t, "unknown(%s)" % t) for t in f.argtypes) + " -> " + PYTHON[f.restype] for f in functions}
 
 
@@ -68,15 +69,25 @@ def read(path):
         return file.read()
 
 
+def rule_numbers():
+    """The refusals of the rules' page: those of each table whose first column is 'No.'."""
+    tables = re.findall(r"^\| No\. \|.*\n(?:\|.*\n)*", read("docs/RULES.md"), flags=re.M)
+    return sorted(int(number) for table in tables for number in re.findall(r"^\| (\d+) \|", table, flags=re.M))
+
+
 def words_differ(header):
     """What is wrong with the words for refusals, a line each."""
-    of_c = re.findall(r'case \w+: return "([^"]*)";', header)
-    of_rust = re.findall(r'^    "([^"]*)",$', read("bindings/rust/corkplover.rs").split("const TEXTS")[1].split("];")[0], flags=re.M)
-    numbers = sorted(int(n) for n in re.findall(r"^\| (\d+) \|", read("docs/RULES.md").split("## Refusals")[1].split("\n## ")[0], flags=re.M))
-    if not of_c == of_rust == list(corkplover._TEXTS):
-        yield "words for refusals: the header has %s\n  Rust %s\n  Python %s" % (of_c, of_rust, corkplover._TEXTS)
-    if numbers != list(range(1, len(of_c))):
-        yield "the rules have refusals %s, and there are words for 1 to %d" % (numbers, len(of_c) - 1)
+    numbered = dict(re.findall(r"(CORK_\w+) = (\d+)", re.search(r"enum cork_refusal \{([^}]*)\}", header)[1]))
+    of_c = {int(numbered[name]): words for name, words in re.findall(r'case (\w+): return "([^"]*)";', header)}
+    texts = read("bindings/rust/corkplover.rs").split("const TEXTS")[1].split("];")[0]
+    of_rust = {int(number): words for number, words in re.findall(r'^    \((\d+), "([^"]*)"\),$', texts, flags=re.M)}
+    of_python = corkplover._TEXTS
+    if not of_c == of_rust == of_python:
+        yield "words for refusals: the header has %s\n  Rust %s\n  Python %s" % (of_c, of_rust, of_python)
+    if len(of_c) != len(numbered):
+        yield "the header has words for %d of %d refusals" % (len(of_c), len(numbered))
+    if rule_numbers() != sorted(of_c)[1:]:
+        yield "the rules have refusals %s, and there are words for %s" % (rule_numbers(), sorted(of_c)[1:])
 
 
 def editions_differ(header):
@@ -91,7 +102,7 @@ def editions_differ(header):
 def main():
     header = sys.stdin.read()
     source = of_source()
-    untyped = {name: re.sub(r"\*(mut-)?u16", "pointer", types).replace("usize", "u64") for name, types in source.items()}
+    untyped = {name: re.sub(r"\*(mut-)?u(8|16)\b", "pointer", types).replace("usize", "u64") for name, types in source.items()}
     wrong = 0
     for place, declared, wanted in (("header", of_header(header), source), ("Rust", of_rust(), source), ("Python", of_python(), untyped)):
         for name in sorted(set(declared) | set(wanted)):
@@ -102,7 +113,7 @@ def main():
         wrong += 1
         print(line)
     print("%d exports, %d differences" % (len(source), wrong))
-    return 1 if wrong or len(source) < 14 else 0
+    return 1 if wrong or len(source) < 17 else 0
 
 
 if __name__ == "__main__":

@@ -1,6 +1,7 @@
 /* Stands between a client and the library and makes a slip on the way, in every call of one export. The variable SLIP says which:
  *
- *   EXPORT parameters I J   two parameters in each other's place, counted from 0; a plane is one parameter with its length
+ *   EXPORT parameters I J   two parameters in each other's place, counted from 0; a plane or record is one parameter with its length
+ *   EXPORT shorter I        the length of a record, parameter I, one byte less
  *   EXPORT fields I J       two fields of the setting in each other's place in its word
  *   EXPORT reversed         the word's bytes in the opposite order
  *   EXPORT noise I J        noise in the word's bits from I up to J
@@ -55,7 +56,7 @@ static void exchange(slot *a, slot *b)
     *b = kept;
 }
 
-/* The setting's word is parameter 0 of every export that takes one: all but the labels. */
+/* The setting's word is parameter 0 of every export that takes one: all but the labels. A record of no bytes has none to lose. */
 static void slip(const char *export_name, slot *s)
 {
     char name[32], what[16];
@@ -63,6 +64,7 @@ static void slip(const char *export_name, slot *s)
     const char *wanted = getenv("SLIP");
     if (!wanted || sscanf(wanted, "%31s %15s %d %d", name, what, &i, &j) < 2 || strcmp(name, export_name) != 0) return;
     if (strcmp(what, "parameters") == 0) exchange(&s[i], &s[j]);
+    if (strcmp(what, "shorter") == 0 && s[i].number > 0) s[i].number--;
     if (strcmp(what, "fields") == 0) s[0].number = with_fields_exchanged(s[0].number, i, j);
     if (strcmp(what, "reversed") == 0) s[0].number = reversed(s[0].number);
     if (strcmp(what, "noise") == 0) s[0].number ^= noise_in(i, j);
@@ -72,6 +74,7 @@ static void slip(const char *export_name, slot *s)
 #define BYTE(i) (uint8_t)s[i].number
 #define SAMPLE(i) (uint16_t)s[i].number
 #define LEVEL(i) (float *)s[i].pointer
+#define RECORD(i) (const uint8_t *)s[i].pointer, s[i].number
 #define SOURCE(i) (const uint16_t *)s[i].pointer, s[i].number
 #define OUTPUT(i) (uint16_t *)s[i].pointer, s[i].number
 #define LENT(p, n) {n, (void *)(uintptr_t)p}
@@ -158,4 +161,29 @@ uint64_t slipped_image_check(uint64_t word, size_t w, size_t v, size_t t, PLANES
     slot s[] = {{word, 0}, {w, 0}, {v, 0}, {t, 0}, LENT(p, ps), LENT(q, qs), LENT(r, rs)};
     slip("image_check", s);
     return corkplover_image_check(NUMBER(0), NUMBER(1), NUMBER(2), NUMBER(3), SOURCE(4), SOURCE(5), SOURCE(6));
+}
+
+uint64_t slipped_read_label(const uint8_t *p, size_t ps);
+uint64_t slipped_read_label(const uint8_t *p, size_t ps)
+{
+    slot s[] = {LENT(p, ps)};
+    slip("read_label", s);
+    return corkplover_read_label(RECORD(0));
+}
+
+/* A code in the flag's place counts as true where it is not 0. */
+uint64_t slipped_write_label(uint8_t p, uint8_t t, uint8_t m, bool f, uint8_t *x, size_t xs);
+uint64_t slipped_write_label(uint8_t p, uint8_t t, uint8_t m, bool f, uint8_t *x, size_t xs)
+{
+    slot s[] = {{p, 0}, {t, 0}, {m, 0}, {f, 0}, LENT(x, xs)};
+    slip("write_label", s);
+    return corkplover_write_label(BYTE(0), BYTE(1), BYTE(2), NUMBER(3) != 0, (uint8_t *)s[4].pointer, s[4].number);
+}
+
+uint64_t slipped_pick_label(const uint8_t *p, size_t ps, const uint8_t *q, size_t qs);
+uint64_t slipped_pick_label(const uint8_t *p, size_t ps, const uint8_t *q, size_t qs)
+{
+    slot s[] = {LENT(p, ps), LENT(q, qs)};
+    slip("pick_label", s);
+    return corkplover_pick_label(RECORD(0), RECORD(1));
 }

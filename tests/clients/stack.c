@@ -40,6 +40,13 @@ static void labels(void)
     seen = (uint64_t)cork_primaries_label(setting.edition, 1) + cork_transfer_label(setting.edition, 1) +
            cork_matrix_label(setting.edition, 1);
 }
+static void records(void)
+{
+    uint8_t record[CORK_RECORD_BYTES];
+    cork_colour_label label = {setting.primaries, setting.transfer, setting.matrix, setting.ycc_full};
+    seen = cork_write_label(label, record, sizeof record).packed + cork_read_label(record, sizeof record).packed;
+    seen += cork_pick_label(record, sizeof record - 1, record, sizeof record).packed;
+}
 static void nothing(void) { seen = 0; }
 
 static size_t taken_by(void (*call)(void))
@@ -57,7 +64,8 @@ static size_t taken_by(void (*call)(void))
 }
 
 static void (*const CALLS[])(void) = {forward_frame, reverse_frame, image_check, judge_forward, judge_reverse, forward_pixel,
-                                      reverse_pixel, meter_pixel,   meter_y,     meter_cb,      meter_cr,      labels};
+                                      reverse_pixel, meter_pixel,   meter_y,     meter_cb,      meter_cr,      labels,
+                                      records};
 
 static size_t most_taken(void)
 {

@@ -2,6 +2,9 @@
 use frame::FrameAnswer;
 use image_check::ImageAnswer;
 use judge::Judgement;
+use nclx::ColourLabel;
+use nclx::LabelRead;
+use nclx::picking::Choice;
 use output::hex;
 use output::number;
 use output::say;
@@ -148,4 +151,58 @@ pub fn judgement(j: Judgement) {
         Judgement::Differs(place, wrong) => differs(place, wrong),
         Judgement::Refused(r) => refusal(r),
     }
+}
+
+// A byte as a number, after a blank.
+fn byte(b: u8) {
+    say(b" ");
+    number(b as u64);
+}
+
+fn bytes(b: &[u8]) {
+    let mut i: usize = 0;
+    while i < b.len() {
+        byte(b[i]);
+        i += 1;
+    }
+    line_end();
+}
+
+fn colour_label(l: ColourLabel) {
+    say(b"label ");
+    number(l.primaries as u64);
+    say(b" ");
+    number(l.transfer as u64);
+    say(b" ");
+    number(l.matrix as u64);
+    if l.full {
+        say(b" 1\n");
+    } else {
+        say(b" 0\n");
+    }
+}
+
+pub fn label_read(a: LabelRead) {
+    match a {
+        LabelRead::Label(l) => colour_label(l),
+        LabelRead::Refused(r) => refusal(r),
+    }
+}
+
+pub fn record(b: &[u8]) {
+    say(b"record");
+    bytes(b);
+}
+
+// A winner with the part that was lent, and the number that came with it, which has to be that of the choice.
+pub fn choice(c: Choice, n: u8, part: &[u8]) {
+    match c {
+        Choice::Container => say(b"container"),
+        Choice::Stream => say(b"stream"),
+        Choice::Refused(_) => {
+            say(b"refused ");
+            number(n as u64);
+        }
+    }
+    bytes(part);
 }

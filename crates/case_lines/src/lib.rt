@@ -5,6 +5,7 @@ ghost use lib.ListN.{replicate};
 
 mod claims;
 mod pictures;
+mod records;
 
 use crate::pictures::FrameTask;
 use case_words::GAP;
@@ -61,16 +62,25 @@ fn on_words(asked: usize, words: &[u8], edition: u8) {
     }
 }
 
-// Word 0 says what is asked, and word 1 is the number of the edition.
-fn on_line(line: &[u8]) {
+// A line that asks of a setting or of a code: word 1 is the number of the edition.
+fn on_edition(line: &[u8], asked: usize) {
     let edition = form::number_word(line, GAP, 1, form::LARGEST_BYTE, form::CLEAR);
     if edition.fault != form::CLEAR {
         answer_lines::bad_line();
         return;
     }
-    let asked = reading::place_at(line, GAP, 0, b"f r s m y b c p t x F R I J K");
     let number = edition.value as u8;
     on_words(asked, reading::words_from(line, GAP, 1), number);
+}
+
+// Word 0 says what is asked.
+fn on_line(line: &[u8]) {
+    let asked = reading::place_at(line, GAP, 0, b"f r s m y b c p t x F R I J K N W P");
+    if asked < 15 {
+        on_edition(line, asked);
+        return;
+    }
+    records::on_record(asked - 15, line);
 }
 
 // Room for the text of all cases.

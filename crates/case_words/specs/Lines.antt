@@ -1,7 +1,7 @@
 -- A line with planes: its sizes are words by their number, its planes are numbers read one after the other, each where the one before ended.
 use mathlib.Core.List.{List, [], _∷_, _++_}
 use Prim.Native.Nat.{ℕ, zero, suc, _+_, _*_, _-_, _%_, _^_}
-use lib.ListN.{length as size, drop}
+use lib.ListN.{length as size, getD, drop, replicate}
 use Rattle.text.specs.Words.{wordOf, nextOf}
 use Rattle.text.specs.Numerals.{numberOf}
 use Rattle.text.specs.declared.reading.Number.{Number}
@@ -70,6 +70,16 @@ unfoldable pub planeOver : List ℕ → ℕ → List ℕ → List ℕ
 planeOver line at out =
     let count = stepAt line at (size out) in
     tab (count .value) (sampleAfter line (count .next)) ++ drop (count .value) out
+
+-- a record is read as a plane is; its numbers are bytes then, with zeros behind them
+abbrev pub recordRoom : ℕ
+recordRoom = 300
+
+abbrev pub lowByte : List ℕ → ℕ → ℕ
+lowByte numbers i = getD numbers i 0 % 256
+
+unfoldable pub recordOver : List ℕ → ℕ → ℕ → List ℕ
+recordOver line at n = tab n (lowByte (planeOver line at (replicate recordRoom 0)))
 
 -- what an output plane of n elements holds before the call
 abbrev pub oldSample : ℕ → ℕ → ℕ

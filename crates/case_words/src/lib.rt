@@ -1,9 +1,12 @@
-// The words of a case line that has planes. Word 9 and those after it are the sizes; then come the planes, which are long, so they are read forward from where
+// The words of a case line that has planes or records. Word 9 and those after it are the sizes; then come the planes, which are long, so they are read forward from where
 // they start, and not word by number.
 ghost use mathlib.Core.Path.{_≡_};
 ghost use Prim.Native.Nat.{_≤_};
 ghost use lib.ListN.{length};
 ghost use Rattle.case_words.specs.Lines.{sizeWord, pictureWords, stepAt, planeAt, planeOver, oldPlane};
+
+pub mod records;
+
 use request::form;
 use request::form::ReadNumber;
 use setting::Setting;

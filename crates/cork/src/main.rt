@@ -103,7 +103,7 @@ fn on_words(all: &[u8]) {
         all,
         GAP,
         0,
-        b"forward reverse source meter label help --help -h",
+        b"forward reverse source meter label label-of help --help -h",
     );
     let said = edition_said(all, &EDITIONS);
     let words = reading::words_from(all, GAP, said.words);
@@ -113,7 +113,8 @@ fn on_words(all: &[u8]) {
         2 => on_pixel(words, said, Call::ImageCheck),
         3 => on_meter(words, said),
         4 => on_label(words, said),
-        5..=7 => wording::usage(),
+        5 => file_label::asked(all),
+        6..=8 => wording::usage(),
         _ => saying::fault(all, 0, 0, Expected::Verb),
     }
 }

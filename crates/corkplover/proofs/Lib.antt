@@ -4,3 +4,4 @@ pub mod FrameLaws
 pub mod ExportLaws
 pub mod Calls
 pub mod ExportedCalls
+pub mod RecordCalls

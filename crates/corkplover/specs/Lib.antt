@@ -3,3 +3,4 @@ pub mod Answers
 pub mod Packing
 pub mod Meaning
 pub mod After
+pub mod RecordPacking

@@ -8,3 +8,6 @@ pub mod labels;
 pub mod meters;
 mod packing;
 pub mod pixels;
+pub mod record_exports;
+mod record_packing;
+pub mod records;

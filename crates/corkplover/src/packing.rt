@@ -17,7 +17,7 @@ use setting::Setting;
 use setting::label::Label;
 
 // Two fields of 8 bits and three of 16.
-fn pack(number: u8, second: u8, a: u16, b: u16, c: u16) -> u64
+pub fn pack(number: u8, second: u8, a: u16, b: u16, c: u16) -> u64
     ensures { λ r. ⌜ r ≡ packed number second a b c ⌝ }
 {
     number as u64
@@ -27,7 +27,7 @@ fn pack(number: u8, second: u8, a: u16, b: u16, c: u16) -> u64
         + c as u64 * 281474976710656
 }
 
-fn pack_refusal(refusal: Refusal) -> u64
+pub fn pack_refusal(refusal: Refusal) -> u64
     ensures { λ r. ⌜ r ≡ packedRefusal refusal ⌝ }
 {
     let number = refusal.number;

@@ -10,6 +10,9 @@ pub fn usage() {
     say(b"  cork meter [EDITION] SETTING Y CB CR      the three levels (luma matrices)\n");
     say(b"  cork meter [EDITION] SETTING y|cb|cr SAMPLE\n");
     say(b"  cork label [EDITION] primaries|transfer|matrix CODE\n");
+    say(
+        b"  cork label-of FILE                        the colour label of an MP4, MOV or AVIF file\n",
+    );
     say(b"  cork help                                 these lines, as without any word\n\n");
     say(b"EDITION is the text of H.273 that the label was written by: 2021, draft or published.\n");
     say(b"Where none is given, published is meant. Matrix codes differ in them from 15 on.\n\n");
@@ -20,6 +23,9 @@ pub fn usage() {
     say(b"  cork forward 1 1 8 8 8 9 full full 255 0 0\n");
     say(b"  cork forward draft 1 1 15 8 10 10 full full 255 0 0\n\n");
     say(b"Status: 0 for an answer, 1 for a refusal, 2 for words that were not understood.\n");
+    say(b"For a file also: 4 its colour records differ, 5 it has none, 6 an older label without\n");
+    say(b"a range flag, 7 an ICC profile instead, 8 it can't be opened or read, 9 it is no such\n");
+    say(b"file, or damaged.\n");
 }
 
 // The names of the editions.
@@ -30,7 +36,7 @@ pub fn editions() {
 // What was expected of a word.
 pub fn expected(e: Expected) {
     match e {
-        Expected::Verb => say(b"forward, reverse, source, meter or label"),
+        Expected::Verb => say(b"forward, reverse, source, meter, label or label-of"),
         Expected::Primaries => say(b"the colour primaries, a number from 0 to 255"),
         Expected::Transfer => say(b"the transfer characteristics, a number from 0 to 255"),
         Expected::Matrix => say(b"the matrix coefficients, a number from 0 to 255"),
@@ -83,6 +89,15 @@ pub fn meaning(n: u8) {
         10 => say(b"a sample is too large for its depth"),
         11 => say(b"the meter needs a luma matrix, and the source check a lossless setting"),
         12 => say(b"there is no such edition; name 2021, draft or published"),
+        20 => say(b"the colour record is not 11 bytes long; write the label anew"),
+        21 => say(b"the colour record does not begin with nclx; write the label anew"),
+        22 => say(b"a code in the colour record is above 255; correct the label"),
+        23 => say(
+            b"a reserved bit of the colour record is set; clear all below the full-range flag",
+        ),
+        24 => say(
+            b"the container leaves a code unspecified and the stream has no good record; name the code in one of them",
+        ),
         _ => say(b"this number has no words here"),
     }
 }

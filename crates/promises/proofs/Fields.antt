@@ -35,11 +35,11 @@ setting-fields : (p t m r y c f g between e : ℕ) → p < 256 → t < 256 → m
     (p + t * 256 + m * 65536 + r * 16777216 + y * 4294967296 + c * 1099511627776 + f * 281474976710656 + g * 562949953421312 + between * 1125899906842624 + e * 72057594037927936)
 setting-fields p t m r y c f g between e hp ht hm hr hy hc hf hg hb he = omega arith
 
-bit-small : (b : Bool) → bit b < 2
+pub bit-small : (b : Bool) → bit b < 2
 bit-small true = omega arith
 bit-small false = omega arith
 
-bit-out : (b : Bool) → eqb (bit b) 1 ≡ b
+pub bit-out : (b : Bool) → eqb (bit b) 1 ≡ b
 bit-out true = refl
 bit-out false = refl
 

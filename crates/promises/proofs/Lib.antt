@@ -8,6 +8,7 @@ pub mod Frames
 pub mod Images
 pub mod Judging
 pub mod Labels
+pub mod Records
 pub mod Lossless
 pub mod PixelPairs
 pub mod FramePairs
@@ -16,10 +17,13 @@ pub mod Editions
 pub mod DraftCodes
 pub mod Fields
 pub mod Unpacked
+pub mod UnpackedRecords
 pub mod Contracts
 pub mod ExportContracts
 pub mod Kept
 pub mod KeptExports
+pub mod RecordContracts
+pub mod KeptRecords
 pub mod Together
 pub mod TogetherExports
 pub mod JudgedTogether

@@ -72,7 +72,7 @@ pub record Other (x : Refusal) : Type 0 where
   pub no-place : x .place ≡ nowhere
   pub no-sample : x .sample ≡ 0
 
-other : (n : ℕ) → (eqb n 0 ≡ false) × (eqb n 10 ≡ false) → n < 256 → Other (numbered n)
+pub other : (n : ℕ) → (eqb n 0 ≡ false) × (eqb n 10 ≡ false) → n < 256 → Other (numbered n)
 other n e h = record { not-0 = e .0; not-10 = e .1; byte = h; no-place = refl; no-sample = refl }
 
 pub setting-others : (c : Call) (s : Setting) → EveryRule Other (settingRules c s)

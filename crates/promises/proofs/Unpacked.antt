@@ -51,22 +51,22 @@ use Rattle.judge.specs.Judge.{isWrong, firstWrong, countWrong, verdict, judgeBy
 use Rattle.judge.specs.declared.Judgement.{Judgement}
 use Rattle.judge.specs.declared.Judgement.the-variants as judgement
 use Rattle.corkplover.specs.Answers.{convertedBy, pixelAnswer, readBy, reading, levelsReadBy, levelsAnswer}
-use Rattle.corkplover.specs.Meaning.{Meaning, meaningRefusal, meaningSamples, meaningSource, meaningJudged, meaningUnless, meaningOfPixel, meaningOfReading, meaningOfLevels, meaningOfFrame, meaningOfImage, meaningOfJudgement, meaningInPixel, meaningInReading, meaningInLevels, meaningInFrame, meaningInImage, meaningInJudgement}
-use Rattle.corkplover.specs.Packing.{packed, secondIn, firstIn, middleIn, packedRefusal, packedPixel, packedReading, levelIn, packedLevels, yIn, cbIn, crIn, packedFrame, packedImage, packedJudgement, wrongIn}
+use Rattle.corkplover.specs.Meaning.{Meaning, refusalIn, meaningRefusal, meaningSamples, meaningSource, meaningJudged, meaningUnless, meaningOfPixel, meaningOfReading, meaningOfLevels, meaningOfFrame, meaningOfImage, meaningOfJudgement, meaningInPixel, meaningInReading, meaningInLevels, meaningInFrame, meaningInImage, meaningInJudgement}
+use Rattle.corkplover.specs.Packing.{packed, numberIn, secondIn, firstIn, middleIn, packedRefusal, packedPixel, packedReading, levelIn, packedLevels, yIn, cbIn, crIn, packedFrame, packedImage, packedJudgement, wrongIn}
 use Rattle.corkplover.specs.declared.pixels.PixelAnswer.the-variants.{Converted}
 use Rattle.promises.proofs.Fields.{fields}
 use Rattle.promises.proofs.Beyond.{picture-beyond, sample-beyond}
 use Rattle.promises.proofs.Refusing.{Other, setting-others, size-others}
 
 -- a refusal that the fields have room for, and that is told from none by its number
-record Small (r : Refusal) : Type 0 where
-  number-some : eqb (r .number) 0 ≡ false
+pub record Small (r : Refusal) : Type 0 where
+  pub number-some : eqb (r .number) 0 ≡ false
   number-small : r .number < 256
   plane-small : r .place .plane < 256
   row-small : r .place .row < 65536
   column-small : r .place .column < 65536
 
-other-small : (r : Refusal) → Other r → Small r
+pub other-small : (r : Refusal) → Other r → Small r
 other-small r o =
     let plane = ap (λ p. p .plane) (o .no-place) in
     let row = ap (λ p. p .row) (o .no-place) in
@@ -74,19 +74,24 @@ other-small r o =
     record { number-some = o .not-0; number-small = o .byte; plane-small = omega arith; row-small = omega arith; column-small = omega arith }
 
 -- what a number means by whether its lowest bits are 0
-refused-means : (b : Bool) (m n : Meaning) → b ≡ false → cond b m n ≡ n
+pub refused-means : {A : Type 0} (b : Bool) (m n : A) → b ≡ false → cond b m n ≡ n
 refused-means true m n e = absurd (true≢false e)
 refused-means false m n e = refl
 
-free-means : (b : Bool) (m n : Meaning) → b ≡ true → cond b m n ≡ m
+pub free-means : {A : Type 0} (b : Bool) (m n : A) → b ≡ true → cond b m n ≡ m
 free-means true m n e = refl
 free-means false m n e = absurd (true≢false (sym e))
 
+-- a refusal is told from what is accepted, and comes out whole
+pub refusal-back : (r : Refusal) → Small r → (eqb (numberIn (packedRefusal r)) 0 ≡ false) × (refusalIn (packedRefusal r) ≡ r)
+refusal-back r h =
+    let f = fields (r .number) (r .place .plane) (r .place .row) (r .place .column) (r .sample) (h .number-small) (h .plane-small) (h .row-small) (h .column-small) in (
+      ap (λ n. eqb n 0) (f .number-out) ∙ h .number-some,
+      λ i. record { number = f .number-out i; place = at (f .second-out i) (f .first-out i) (f .middle-out i); sample = f .last-out i },
+    )
+
 refusal-out : (r : Refusal) (m : Meaning) → Small r → meaningUnless (packedRefusal r) m ≡ meaningRefusal r
-refusal-out r m h =
-    let f = fields (r .number) (r .place .plane) (r .place .row) (r .place .column) (r .sample) (h .number-small) (h .plane-small) (h .row-small) (h .column-small) in
-    refused-means _ m _ (ap (λ n. eqb n 0) (f .number-out) ∙ h .number-some)
-    ∙ (λ i. meaningRefusal (record { number = f .number-out i; place = at (f .second-out i) (f .first-out i) (f .middle-out i); sample = f .last-out i }))
+refusal-out r m h = let t = refusal-back r h in refused-means _ m _ (t .0) ∙ ap meaningRefusal (t .1)
 
 -- ---- of any call: what is heard of it, and what it says
 

@@ -6,4 +6,5 @@ pub mod Frames
 pub mod Images
 pub mod Judging
 pub mod Labels
+pub mod Records
 pub mod Editions

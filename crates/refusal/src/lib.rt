@@ -47,6 +47,16 @@ impl Refusal {
 
     pub const UNKNOWN_EDITION: u8 = 12;
 
+    pub const RECORD_LENGTH: u8 = 20;
+
+    pub const RECORD_LETTERS: u8 = 21;
+
+    pub const RECORD_CODE: u8 = 22;
+
+    pub const RECORD_RESERVED_BIT: u8 = 23;
+
+    pub const RECORD_UNSPECIFIED: u8 = 24;
+
     // A refusal that names no sample.
     pub fn numbered(number: u8) -> Refusal
         ensures { λ r. ⌜ r ≡ numbered number ⌝ }

@@ -6,10 +6,15 @@
 //! `K` one judged in reverse. A setting starts with its edition, and a label case
 //! has the edition before the code. `J` and `K` have width, height, the source's
 //! stride and the claimed one, then three source planes and three claimed ones,
-//! each as its length and its elements. The answer to `F` and `R` has four lines,
-//! the last three of them the output planes; all others have one.
+//! each as its length and its elements. Record cases, which have no edition: `N` a
+//! colour record read, as its length and its bytes; `W` a label written, its three
+//! codes and its flag; `P` one of two records picked, the container's and then the
+//! stream's. The answer to `F` and `R` has four lines, the last three of them the
+//! output planes; all others have one.
 
-use crate::rules::{self, Difference, Label, Pixel, Refusal, Setting, Side, Way};
+use crate::rules::{
+    self, ColourLabel, Difference, Label, Origin, Pixel, Refusal, Setting, Side, Way,
+};
 use crate::words::Words;
 
 /// The answers to a whole text, or words that name the line at fault.
@@ -47,6 +52,9 @@ fn answer_line(line: &str) -> Result<String, String> {
         "I" => image_case(words),
         "J" => judged_case(words, Way::Forward),
         "K" => judged_case(words, Way::Reverse),
+        "N" => read_case(words),
+        "W" => written_case(words),
+        "P" => picked_case(words),
         other => Err(format!("'{}' is not a kind of case", other)),
     }
 }
@@ -97,7 +105,7 @@ fn frame_case(mut words: Words, way: Way) -> Result<String, String> {
     };
     let outcome = rules::convert_frame(&setting, way, size, &source, &mut output);
     let mut lines = vec![outcome.map_or_else(refused, |()| String::from("done"))];
-    lines.extend(output.planes.iter().map(|plane| elements(plane)));
+    lines.extend(output.planes.iter().map(|plane| numbers(plane)));
     Ok(lines.join("\n"))
 }
 
@@ -107,8 +115,8 @@ fn old_contents(length: usize, fill: u16) -> Vec<u16> {
     (0..length).map(|index| element(index) as u16).collect()
 }
 
-fn elements(plane: &[u16]) -> String {
-    let words: Vec<String> = plane.iter().map(u16::to_string).collect();
+fn numbers<N: ToString>(row: &[N]) -> String {
+    let words: Vec<String> = row.iter().map(N::to_string).collect();
     words.join(" ")
 }
 
@@ -153,6 +161,40 @@ fn judgement(found: Option<Difference>) -> String {
             first.row, first.column, first.wrong
         ),
     }
+}
+
+fn read_case(mut words: Words) -> Result<String, String> {
+    let record = words.bytes()?;
+    words.end()?;
+    Ok(rules::read_record(&record).map_or_else(refused, colour_label))
+}
+
+fn written_case(mut words: Words) -> Result<String, String> {
+    let label = words.colour_label()?;
+    words.end()?;
+    let record = rules::written_record(label);
+    Ok(format!("record {}", numbers(&record)))
+}
+
+fn picked_case(mut words: Words) -> Result<String, String> {
+    let container = words.bytes()?;
+    let stream = words.bytes()?;
+    words.end()?;
+    let picked = rules::pick_record(&container, &stream);
+    Ok(picked.map_or_else(refused, |(origin, part)| match origin {
+        Origin::Container => format!("container {}", numbers(part)),
+        Origin::Stream => format!("stream {}", numbers(part)),
+    }))
+}
+
+fn colour_label(label: ColourLabel) -> String {
+    format!(
+        "label {} {} {} {}",
+        label.primaries,
+        label.transfer,
+        label.matrix,
+        u8::from(label.full)
+    )
 }
 
 fn samples(pixel: Pixel) -> String {

@@ -12,6 +12,7 @@ mod halves;
 mod kinds;
 mod pixels;
 mod random;
+mod record_cases;
 mod rules;
 mod self_test;
 mod settings;
@@ -23,6 +24,7 @@ use std::process::exit;
 
 const USAGE: &str = "usage: oracle pixel-cases SEED   writes pixel cases
        oracle frame-cases SEED   writes frame cases
+       oracle record-cases SEED  writes record cases
        oracle answer             reads cases, writes their answers
        oracle self-test          checks the oracle itself";
 
@@ -32,6 +34,7 @@ fn main() {
     let outcome = match words[..] {
         ["pixel-cases", seed] => parsed_seed(seed).map(cases::pixel_cases),
         ["frame-cases", seed] => parsed_seed(seed).map(frame_cases::frame_cases),
+        ["record-cases", seed] => parsed_seed(seed).map(record_cases::record_cases),
         ["answer"] => standard_input().and_then(|cases| answers::answer_text(&cases)),
         ["self-test"] => self_test::run(),
         _ => Err(String::from(USAGE)),

@@ -6,12 +6,14 @@ mod editions;
 mod formulas;
 mod judged_texts;
 mod judging;
+mod records;
 mod texts;
 
 use crate::answers::answer_text;
 use crate::fraction::Fraction;
 use crate::worked::{
-    BY_EDITION, EDGES, FRAMES, FRAME_ORDER, JUDGED, JUDGED_ORDER, PIXELS, PIXEL_ORDER, REFUSALS,
+    BY_EDITION, EDGES, FRAMES, FRAME_ORDER, JUDGED, JUDGED_ORDER, PICKS, PIXELS, PIXEL_ORDER,
+    RECORDS, RECORD_ORDER, REFUSALS,
 };
 use std::fmt::Debug;
 
@@ -32,6 +34,9 @@ pub fn run() -> Result<String, String> {
         &FRAME_ORDER,
         &JUDGED,
         &JUDGED_ORDER,
+        &RECORDS,
+        &RECORD_ORDER,
+        &PICKS,
     ] {
         test.lines(lines)?;
     }
@@ -42,6 +47,7 @@ pub fn run() -> Result<String, String> {
     test.solved_levels()?;
     test.greys()?;
     test.planted_differences()?;
+    test.records()?;
     test.texts()?;
     Ok(format!("oracle: {} checks\n", test.checks))
 }

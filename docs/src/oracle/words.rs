@@ -1,7 +1,7 @@
 //! Reads the words of one case line: separated by one blank each, numbers in
 //! decimal. Everything else is an error in words.
 
-use crate::rules::{Pixel, Setting, Size};
+use crate::rules::{ColourLabel, Pixel, Setting, Size};
 use std::str::{FromStr, Split};
 
 pub struct Words<'a> {
@@ -74,6 +74,22 @@ impl<'a> Words<'a> {
     fn plane(&mut self) -> Result<Vec<u16>, String> {
         let length: usize = self.number()?;
         (0..length).map(|_| self.number()).collect()
+    }
+
+    /// Bytes, as their count and then each of them.
+    pub fn bytes(&mut self) -> Result<Vec<u8>, String> {
+        let length: usize = self.number()?;
+        (0..length).map(|_| self.number()).collect()
+    }
+
+    /// Four words: P T M F.
+    pub fn colour_label(&mut self) -> Result<ColourLabel, String> {
+        Ok(ColourLabel {
+            primaries: self.number()?,
+            transfer: self.number()?,
+            matrix: self.number()?,
+            full: self.flag()?,
+        })
     }
 
     pub fn end(mut self) -> Result<(), String> {

@@ -2,8 +2,10 @@
 //! of ours for what docs/RULES.md says in words.
 
 mod judged;
+mod records;
 
 pub use judged::{JUDGED, JUDGED_ORDER};
+pub use records::{PICKS, RECORDS, RECORD_ORDER};
 
 /// A case line and its answer; a frame answer has its lines in one text.
 pub type Line = (&'static str, &'static str);

@@ -1,5 +1,5 @@
 //! The rows of the refusal table that need no picture: 12, 1 to 7, 11, and 10
-//! for single pixels and samples.
+//! for single pixels and samples. Those of colour records stand with their rules.
 
 use super::edition::{edition_of, Edition};
 use super::labels::{primaries_label, transfer_label, Label};

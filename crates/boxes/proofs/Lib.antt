@@ -1,0 +1,2 @@
+-- Laws of walks over boxes.
+pub mod WalkLaws

@@ -1,0 +1,3 @@
+-- Boxes and where they lie.
+pub mod Boxes
+pub mod Placed

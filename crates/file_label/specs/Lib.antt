@@ -1,0 +1,2 @@
+-- The length of a file.
+pub mod Length
