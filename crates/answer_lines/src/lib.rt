@@ -1,4 +1,5 @@
 // Answers as lines of text, as test cases have them. They are held to stored answers, since no contract can speak of what is written.
+use codes::label::Label;
 use frame::FrameAnswer;
 use image_check::ImageAnswer;
 use judge::Judgement;
@@ -12,7 +13,6 @@ use refusal::Place;
 use refusal::Refusal;
 use request::Answer;
 use sample::Pixel;
-use setting::label::Label;
 
 pub fn bad_line() {
     say(b"bad line\n");

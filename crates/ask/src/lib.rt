@@ -3,6 +3,7 @@
 ghost use mathlib.Core.Path.{_≡_};
 ghost use Rattle.corkplover.specs.Answers.{labelAnswer, pixelAnswer, reading, levelsAnswer};
 ghost use Rattle.ask.specs.Answers.{ofPixel, ofSource, ofReading, ofLevels, ofLabel, askPixel, answerTo};
+use codes::label::CodeKind;
 use corkplover::labels;
 use corkplover::labels::LabelAnswer;
 use corkplover::meters;
@@ -18,7 +19,6 @@ use sample::Pixel;
 use setting::Call;
 use setting::Setting;
 use setting::Way;
-use setting::label::CodeKind;
 
 fn convert(way: Way, s: Setting, p: Pixel) -> PixelAnswer
     ensures { λ r. ⌜ r ≡ pixelAnswer way s p ⌝ }

@@ -10,12 +10,12 @@ mod records;
 use crate::pictures::FrameTask;
 use case_words::GAP;
 use case_words::RANGES;
+use codes::label::CodeKind;
 use meter::SampleKind;
 use request::form;
 use request::form::Asked;
 use setting::Call;
 use setting::Way;
-use setting::label::CodeKind;
 use text::reading;
 
 fn asked(a: Asked) {

@@ -3,6 +3,7 @@ ghost use mathlib.Core.Path.{_≡_};
 ghost use Prim.Native.Nat.{_≤_, _-_, min};
 ghost use lib.ListN.{length};
 ghost use Rattle.cork.specs.CommandLine.{mostWords, Words, editionSaid};
+use codes::label::CodeKind;
 use counter::GAP;
 use counter::saying;
 use counter::wording;
@@ -12,7 +13,6 @@ use request::form::Asked;
 use request::form::Expected;
 use setting::Call;
 use setting::Way;
-use setting::label::CodeKind;
 use text::reading;
 
 // How many words are read: no request has so many.

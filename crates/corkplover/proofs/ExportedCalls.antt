@@ -1,7 +1,7 @@
 -- The same of the exported functions, whose setting and answer are one number each.
 use mathlib.Core.Path.{_≡_}
 use denote.Ref.{now}
-use Rattle.setting.specs.declared.label.CodeKind.the-variants.{Primaries, Transfer, Matrix}
+use Rattle.codes.specs.declared.label.CodeKind.the-variants.{Primaries, Transfer, Matrix}
 use Rattle.setting.specs.declared.Way.the-variants.{Forward, Reverse}
 use Rattle.meter.specs.declared.SampleKind.the-variants.{Y, Cb, Cr}
 use Rattle.planes.specs.Picture.{picture}

@@ -3,15 +3,15 @@ use mathlib.Core.Bool.{cond}
 use Prim.Native.Nat.{ℕ}
 use Rattle.refusal.specs.Rules.{numbered}
 use Rattle.sample.specs.declared.Pixel.{Pixel}
-use Rattle.setting.specs.Edition.{editionOf}
-use Rattle.setting.specs.Label.{labelFor}
+use Rattle.codes.specs.Edition.{editionOf}
+use Rattle.codes.specs.Label.{labelFor}
+use Rattle.codes.specs.declared.edition.EditionChecked.{EditionChecked}
+use Rattle.codes.specs.declared.edition.EditionChecked.the-variants as edition
+use Rattle.codes.specs.declared.label.CodeKind.{CodeKind}
 use Rattle.setting.specs.declared.Call.the-variants as call
 use Rattle.setting.specs.declared.Setting.{Setting}
 use Rattle.setting.specs.declared.admission.Admission.{Admission}
 use Rattle.setting.specs.declared.admission.Admission.the-variants as admission
-use Rattle.setting.specs.declared.edition.EditionChecked.{EditionChecked}
-use Rattle.setting.specs.declared.edition.EditionChecked.the-variants as edition
-use Rattle.setting.specs.declared.label.CodeKind.{CodeKind}
 use Rattle.meter.specs.Level.{levelOf, levelsOf}
 use Rattle.meter.specs.declared.SampleKind.{SampleKind}
 use Rattle.plan.specs.Conversion.{convert}

@@ -9,7 +9,7 @@ use lib.Ieee.{Float, fin}
 use Rattle.sample.specs.declared.Pixel.{Pixel}
 use Rattle.meter.specs.declared.PixelLevels.{PixelLevels}
 use Rattle.refusal.specs.declared.Refusal.{Refusal}
-use Rattle.setting.specs.Label.{labelNumber}
+use Rattle.codes.specs.Label.{labelNumber}
 use Rattle.setting.specs.declared.Setting.{Setting}
 use Rattle.frame.specs.declared.Size.{Size}
 use Rattle.frame.specs.declared.FrameAnswer.{FrameAnswer}

@@ -1,7 +1,8 @@
 // The calls for C and for every language that can call C: numbered numbers and slices. A setting is one number, and so is an answer
 // (specs/Packing.antt).
 ghost use mathlib.Core.Path.{_≡_};
-ghost use Rattle.setting.specs.declared.label.CodeKind.the-variants.{Primaries, Transfer, Matrix};
+use codes::label::CodeKind;
+ghost use Rattle.codes.specs.declared.label.CodeKind.the-variants.{Primaries, Transfer, Matrix};
 ghost use Rattle.setting.specs.declared.Way.the-variants.{Forward, Reverse};
 ghost use Rattle.meter.specs.declared.SampleKind.the-variants.{Y, Cb, Cr};
 ghost use Rattle.corkplover.specs.Answers.{labelAnswer, pixelAnswer};
@@ -14,7 +15,6 @@ use crate::packing::pixel_from;
 use crate::packing::setting_in;
 use crate::pixels;
 use meter::SampleKind;
-use setting::label::CodeKind;
 
 #[no_mangle]
 pub extern "C" fn corkplover_primaries_label(edition: u8, code: u8) -> u8

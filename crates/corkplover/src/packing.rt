@@ -1,11 +1,12 @@
 // Settings and answers as one number each, for callers in other languages.
 ghost use mathlib.Core.Path.{_≡_};
-ghost use Rattle.setting.specs.Label.{labelNumber};
+ghost use Rattle.codes.specs.Label.{labelNumber};
 ghost use Rattle.corkplover.specs.Packing.{packed, packedLabel, packedRefusal, packedPixel, packedReading, packedLevels, levelIn, levelsIn, packedFrame, packedImage, packedJudgement, wrongIn, settingIn, pixelFrom, sizes};
 use crate::labels::LabelAnswer;
 use crate::meters::LevelsAnswer;
 use crate::meters::Reading;
 use crate::pixels::PixelAnswer;
+use codes::label::Label;
 use frame::FrameAnswer;
 use frame::Size;
 use image_check::ImageAnswer;
@@ -14,7 +15,6 @@ use meter::PixelLevels;
 use refusal::Refusal;
 use sample::Pixel;
 use setting::Setting;
-use setting::label::Label;
 
 // Two fields of 8 bits and three of 16.
 pub fn pack(number: u8, second: u8, a: u16, b: u16, c: u16) -> u64

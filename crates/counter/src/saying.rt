@@ -5,6 +5,7 @@ ghost use Rattle.counter.specs.Millionths.{millionths};
 use crate::GAP;
 use crate::beyond;
 use crate::wording;
+use codes::label::Label;
 use output::hex;
 use output::number;
 use output::say;
@@ -14,7 +15,6 @@ use request::Request;
 use request::form::Expected;
 use sample::Pixel;
 use setting::Way;
-use setting::label::Label;
 use text::reading;
 
 // The word at which reading stopped, counted with the words before these, and what was expected of it. Where none stands before them, word 1 could

@@ -22,12 +22,12 @@ use Rattle.scale.specs.Scale.{written, writtenChroma}
 use Rattle.levels.specs.Conversion.{levelsForward, levelsReverse}
 use Rattle.levels.specs.declared.LevelSetting.{LevelSetting}
 use Rattle.levels.specs.declared.equations.LevelMatrix.{LevelMatrix}
+use Rattle.codes.specs.declared.matrix.Formulas.{Formulas}
+use Rattle.codes.specs.declared.matrix.Formulas.the-variants.{ChangePlaces, YCgCo, Levels}
 use Rattle.setting.specs.Ready.{levelSetting, Agreed, Ready, Keeping, Keeps}
 use Rattle.setting.specs.declared.Way.{Way}
 use Rattle.setting.specs.declared.Way.the-variants.{Forward, Reverse}
 use Rattle.setting.specs.declared.admission.Served.{Served}
-use Rattle.setting.specs.declared.matrix.Formulas.{Formulas}
-use Rattle.setting.specs.declared.matrix.Formulas.the-variants.{ChangePlaces, YCgCo, Levels}
 use Rattle.plan.specs.Conversion.{lossy, lossless, ycgcoBy, convertBy, convert}
 use Rattle.plan.specs.Source.{HasSource, samePixel, hasSource}
 

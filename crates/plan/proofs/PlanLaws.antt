@@ -15,13 +15,13 @@ use Rattle.levels.specs.declared.equations.LevelMatrix.{LevelMatrix}
 use Rattle.levels.proofs.Bounds.{samples-fit}
 use Rattle.levels.proofs.Fitting.{forward-ready, reverse-ready}
 use Rattle.levels.proofs.Pixels.{forward-law, reverse-law}
+use Rattle.codes.specs.declared.matrix.Formulas.{Formulas}
+use Rattle.codes.specs.declared.matrix.Formulas.the-variants.{ChangePlaces, YCgCo, Levels}
 use Rattle.setting.specs.Call.{inputOf}
 use Rattle.setting.specs.Ready.{Agreed, Ready, levelSetting}
 use Rattle.setting.specs.declared.Way.{Way}
 use Rattle.setting.specs.declared.Way.the-variants.{Forward, Reverse}
 use Rattle.setting.specs.declared.admission.Served.{Served}
-use Rattle.setting.specs.declared.matrix.Formulas.{Formulas}
-use Rattle.setting.specs.declared.matrix.Formulas.the-variants.{ChangePlaces, YCgCo, Levels}
 use Rattle.plan.specs.Conversion.{changePlaces, lossy, lossless, ycgcoBy, levelsBy, convertBy, convert}
 use Rattle.plan.specs.Plan.{placesPlan, lossyPlan, losslessPlan, ycgcoPlan, levelsPlan, planBy, planOf, Plans}
 use Rattle.plan.specs.declared.Plan.{Plan}

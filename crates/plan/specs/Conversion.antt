@@ -7,12 +7,12 @@ use Rattle.ycgco.specs.YCgCo.{lossyForward, lossyReverse, losslessForward, loss
 use Rattle.levels.specs.Conversion.{levelsForward, levelsReverse}
 use Rattle.levels.specs.declared.LevelSetting.{LevelSetting}
 use Rattle.levels.specs.declared.equations.LevelMatrix.{LevelMatrix}
+use Rattle.codes.specs.declared.matrix.Formulas.{Formulas}
+use Rattle.codes.specs.declared.matrix.Formulas.the-variants.{ChangePlaces, YCgCo, Levels}
 use Rattle.setting.specs.Ready.{levelSetting}
 use Rattle.setting.specs.declared.Way.{Way}
 use Rattle.setting.specs.declared.Way.the-variants.{Forward, Reverse}
 use Rattle.setting.specs.declared.admission.Served.{Served}
-use Rattle.setting.specs.declared.matrix.Formulas.{Formulas}
-use Rattle.setting.specs.declared.matrix.Formulas.the-variants.{ChangePlaces, YCgCo, Levels}
 
 -- code 0: Y = G, Cb = B, Cr = R (45 to 47), and back
 abbrev pub changePlaces : Way → Pixel → Pixel

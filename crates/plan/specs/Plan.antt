@@ -12,12 +12,12 @@ use Rattle.levels.specs.Lines.{forwardLines, reverseLines, linesPixel}
 use Rattle.levels.specs.Room.{AllReady}
 use Rattle.levels.specs.declared.LevelSetting.{LevelSetting}
 use Rattle.levels.specs.declared.equations.LevelMatrix.{LevelMatrix}
+use Rattle.codes.specs.declared.matrix.Formulas.{Formulas}
+use Rattle.codes.specs.declared.matrix.Formulas.the-variants.{ChangePlaces, YCgCo, Levels}
 use Rattle.setting.specs.Ready.{levelSetting}
 use Rattle.setting.specs.declared.Way.{Way}
 use Rattle.setting.specs.declared.Way.the-variants.{Forward, Reverse}
 use Rattle.setting.specs.declared.admission.Served.{Served}
-use Rattle.setting.specs.declared.matrix.Formulas.{Formulas}
-use Rattle.setting.specs.declared.matrix.Formulas.the-variants.{ChangePlaces, YCgCo, Levels}
 use Rattle.plan.specs.Conversion.{changePlaces}
 use Rattle.plan.specs.declared.Plan.{Plan}
 use Rattle.plan.specs.declared.Plan.the-variants.{PlacesForward, PlacesReverse, LossyForward, LossyReverse, LosslessForward, LosslessReverse, Lines}

@@ -3,13 +3,13 @@ ghost use mathlib.Core.Path.{_≡_};
 ghost use Rattle.levels.specs.Conversion.{MatrixFits, LevelDepths};
 ghost use Rattle.setting.specs.Ready.{Ready};
 ghost use Rattle.plan.specs.Plan.{placesPlan, lossyPlan, losslessPlan, ycgcoPlan, levelsPlan, planOf};
+use codes::matrix::Formulas;
 use levels::LevelSetting;
 use levels::equations::LevelMatrix;
 use levels::lines::Lines;
 use sample::Depths;
 use setting::Way;
 use setting::admission::Served;
-use setting::matrix::Formulas;
 
 pub enum Plan {
     // planes change places

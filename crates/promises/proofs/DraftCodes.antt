@@ -13,11 +13,13 @@ use Rattle.refusal.specs.Rules.{Rule, FirstIs, first, orElse, numbered}
 use Rattle.refusal.specs.declared.Check.the-variants.{Passed, Refused}
 use Rattle.refusal.specs.declared.Refusal.{Refusal}
 use Rattle.refusal.proofs.RuleLaws.{passed-over, refused-exactly}
+use Rattle.codes.specs.Edition.{editionOf}
+use Rattle.codes.specs.Matrix.{ycgcoRe, ycgcoRo, matrixOf}
+use Rattle.codes.specs.Label.{primariesLabel, transferLabel, isReserved}
+use Rattle.codes.specs.Standing.{matrixBy}
 use Rattle.setting.specs.Agreement.{depthsServed, agree}
-use Rattle.setting.specs.Edition.{editionOf, inEdition}
-use Rattle.setting.specs.Label.{primariesLabel, transferLabel, isReserved}
-use Rattle.setting.specs.Matrix.{ycgcoRe, ycgcoRo, matrixOf}
-use Rattle.setting.specs.Rules.{depths, editionRule, matrixBy, matrixRules, settingRules}
+use Rattle.setting.specs.Edition.{inEdition}
+use Rattle.setting.specs.Rules.{depths, editionRule, matrixRules, settingRules}
 use Rattle.setting.specs.declared.Call.{Call}
 use Rattle.setting.specs.declared.Setting.{Setting}
 use Rattle.scan.specs.First.{badRule}

@@ -3,14 +3,14 @@ use mathlib.Core.Path.{_≡_, refl, ap}
 use mathlib.Core.Bool.{true≢false}
 use Prim.Native.Nat.{ℕ, _≤_}
 use native.Mathlib.Omega.{arith}
-use Rattle.setting.specs.Edition.{editionOf}
-use Rattle.setting.specs.Label.{labelNumber, labelFor}
-use Rattle.setting.specs.declared.edition.Edition.{Edition}
-use Rattle.setting.specs.declared.edition.EditionChecked.{EditionChecked}
-use Rattle.setting.specs.declared.edition.EditionChecked.the-variants as edition
-use Rattle.setting.specs.declared.label.CodeKind.{CodeKind}
-use Rattle.setting.specs.declared.label.Label.{Label}
-use Rattle.setting.specs.declared.label.Label.the-variants.{Assigned, Unspecified, Reserved}
+use Rattle.codes.specs.Edition.{editionOf}
+use Rattle.codes.specs.Label.{labelNumber, labelFor}
+use Rattle.codes.specs.declared.edition.Edition.{Edition}
+use Rattle.codes.specs.declared.edition.EditionChecked.{EditionChecked}
+use Rattle.codes.specs.declared.edition.EditionChecked.the-variants as edition
+use Rattle.codes.specs.declared.label.CodeKind.{CodeKind}
+use Rattle.codes.specs.declared.label.Label.{Label}
+use Rattle.codes.specs.declared.label.Label.the-variants.{Assigned, Unspecified, Reserved}
 use Rattle.corkplover.specs.Answers.{labelBy, labelAnswer}
 use Rattle.corkplover.specs.Packing.{packedLabel}
 use Rattle.promises.specs.Labels.{AnswersLabel}

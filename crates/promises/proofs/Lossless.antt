@@ -12,26 +12,27 @@ use Rattle.sample.proofs.Choices.{both-true}
 use Rattle.refusal.specs.Rules.{Rule, rule, first}
 use Rattle.refusal.specs.declared.Check.the-variants.{Passed}
 use Rattle.refusal.proofs.RuleLaws.{passed-over}
+use Rattle.codes.specs.Edition.{editionOf}
+use Rattle.codes.specs.Matrix.{changedPlaces, ycgcoR, ycgcoRe, ycgcoRo, matrixOf}
+use Rattle.codes.specs.Standing.{standing, entryOf}
+use Rattle.codes.specs.declared.edition.Edition.{Edition}
+use Rattle.codes.specs.declared.edition.Edition.the-variants.{Of2021, Draft, Published}
+use Rattle.codes.specs.declared.matrix.Bond.{Bond}
+use Rattle.codes.specs.declared.matrix.Bond.the-variants.{Bits}
+use Rattle.codes.specs.declared.matrix.Entry.{Entry}
+use Rattle.codes.specs.declared.matrix.Lossless.{Lossless}
+use Rattle.codes.specs.declared.matrix.Lossless.the-variants.{From, Never}
+use Rattle.codes.specs.declared.matrix.Matrix.{Matrix}
+use Rattle.codes.specs.declared.matrix.Matrix.the-variants as matrix
+use Rattle.codes.proofs.Table.{Each, rows, at-code}
 use Rattle.setting.specs.Agreement.{bonded, keeps, answers}
-use Rattle.setting.specs.Edition.{editionOf}
-use Rattle.setting.specs.Matrix.{changedPlaces, ycgcoR, ycgcoRe, ycgcoRo, matrixOf}
-use Rattle.setting.specs.Rules.{standing, entryOf, matrixIn, entry, depths, settingRules}
+use Rattle.setting.specs.Rules.{matrixIn, entry, depths, settingRules}
 use Rattle.setting.specs.declared.Call.{Call}
 use Rattle.setting.specs.declared.Call.the-variants.{Convert, ImageCheck}
 use Rattle.setting.specs.declared.Setting.{Setting}
 use Rattle.setting.specs.declared.Way.{Way}
 use Rattle.setting.specs.declared.Way.the-variants.{Forward}
-use Rattle.setting.specs.declared.edition.Edition.{Edition}
-use Rattle.setting.specs.declared.edition.Edition.the-variants.{Of2021, Draft, Published}
-use Rattle.setting.specs.declared.matrix.Bond.{Bond}
-use Rattle.setting.specs.declared.matrix.Bond.the-variants.{Bits}
-use Rattle.setting.specs.declared.matrix.Entry.{Entry}
-use Rattle.setting.specs.declared.matrix.Lossless.{Lossless}
-use Rattle.setting.specs.declared.matrix.Lossless.the-variants.{From, Never}
-use Rattle.setting.specs.declared.matrix.Matrix.{Matrix}
-use Rattle.setting.specs.declared.matrix.Matrix.the-variants as matrix
 use Rattle.setting.proofs.ReadyLaws.{rule-11, bonded-so, deeper}
-use Rattle.setting.proofs.Table.{Each, rows, at-code}
 use Rattle.promises.specs.Lossless.{Listed, change-places, ycgco-r, ycgco-re, ycgco-ro}
 
 -- ---- of the rules on a setting rule 11 alone asks for the call

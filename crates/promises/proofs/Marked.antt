@@ -11,8 +11,8 @@ use Rattle.scan.specs.First.{orFound, firstOf, placeIf, placeInRow, firstPlace,
 use Rattle.ycgco.specs.YCgCo.{lossyForward, lossyReverse, losslessForward, losslessReverse}
 use Rattle.levels.specs.Conversion.{levelsForward, levelsReverse}
 use Rattle.levels.specs.Equations.{lumaMatrix}
-use Rattle.setting.specs.Label.{among, labelled}
-use Rattle.setting.specs.Matrix.{matrixOf}
+use Rattle.codes.specs.Matrix.{matrixOf}
+use Rattle.codes.specs.Label.{among, labelled}
 use Rattle.setting.specs.Agreement.{depthsServed, agree}
 use Rattle.setting.specs.declared.Setting.{Setting}
 use Rattle.plan.specs.Conversion.{convert}

@@ -9,16 +9,17 @@ use Rattle.levels.specs.Conversion.{LevelDepths, lumaForward, lumaReverse}
 use Rattle.levels.specs.Equations.{allParts, weights, lumaMatrix}
 use Rattle.levels.proofs.Bounds.{shares}
 use Rattle.levels.proofs.Pixels.{luma-forward, luma-reverse}
-use Rattle.setting.specs.Matrix.{lumaEntry}
+use Rattle.codes.specs.Matrix.{lumaEntry}
+use Rattle.codes.specs.Standing.{entryOf}
+use Rattle.codes.specs.declared.matrix.Formulas.the-variants.{Levels}
+use Rattle.codes.specs.declared.matrix.Matrix.{Matrix}
+use Rattle.codes.specs.declared.matrix.Matrix.the-variants as matrix
 use Rattle.setting.specs.Ready.{levelSetting, Agreed}
-use Rattle.setting.specs.Rules.{entryOf, matrixIn, entry, served, settingRules}
+use Rattle.setting.specs.Rules.{matrixIn, entry, served, settingRules}
 use Rattle.setting.specs.declared.Call.the-variants.{Convert}
 use Rattle.setting.specs.declared.Setting.{Setting}
 use Rattle.setting.specs.declared.Way.{Way}
 use Rattle.setting.specs.declared.Way.the-variants.{Forward, Reverse}
-use Rattle.setting.specs.declared.matrix.Formulas.the-variants.{Levels}
-use Rattle.setting.specs.declared.matrix.Matrix.{Matrix}
-use Rattle.setting.specs.declared.matrix.Matrix.the-variants as matrix
 use Rattle.setting.proofs.ReadyLaws.{ready}
 use Rattle.plan.specs.Conversion.{convertBy, convert}
 

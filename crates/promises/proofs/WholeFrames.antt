@@ -15,8 +15,8 @@ use Rattle.planes.specs.Plane.{tab, cell, planeOf}
 use Rattle.planes.specs.Sizes.{layout, outside, someLayout, sizeOutside, anyShort, layoutShort}
 use Rattle.planes.specs.declared.size.Layout.{Layout}
 use Rattle.ycgco.specs.YCgCo.{losslessForward, losslessReverse}
-use Rattle.setting.specs.Label.{among, labelled}
-use Rattle.setting.specs.Matrix.{matrixOf}
+use Rattle.codes.specs.Matrix.{matrixOf}
+use Rattle.codes.specs.Label.{among, labelled}
 use Rattle.setting.specs.Agreement.{depthsServed, agree}
 use Rattle.setting.specs.declared.Setting.{Setting}
 use Rattle.plan.specs.Conversion.{convert}

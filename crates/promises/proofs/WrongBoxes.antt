@@ -5,10 +5,10 @@ use mathlib.Core.List.{List, [], _∷_}
 use Prim.Native.Nat.{ℕ}
 use native.Mathlib.Omega.{arith}
 use lib.ListN.{getD}
-use Rattle.setting.specs.Label.{among, labelled, labelNumber, primariesLabel, transferLabel, matrixLabel}
-use Rattle.setting.specs.Matrix.{matrixOf}
+use Rattle.codes.specs.Matrix.{matrixOf}
+use Rattle.codes.specs.Label.{among, labelled, labelNumber, primariesLabel, transferLabel, matrixLabel}
+use Rattle.codes.specs.declared.edition.Edition.the-variants.{Published}
 use Rattle.setting.specs.declared.Setting.{Setting}
-use Rattle.setting.specs.declared.edition.Edition.the-variants.{Published}
 use Rattle.setting.specs.declared.Way.the-variants.{Forward, Reverse}
 use Rattle.corkplover.specs.Answers.{pixelAnswer, sourceAnswer}
 use Rattle.admit.specs.Rules.{callAdmission}

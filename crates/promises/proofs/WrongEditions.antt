@@ -8,13 +8,13 @@ use Rattle.sample.specs.Depth.{isDepth, areDepths, atMost}
 use Rattle.refusal.specs.Rules.{first, numbered}
 use Rattle.scan.specs.First.{orFound, firstOf, placeIf, placeInRow, firstPlace, badSample}
 use Rattle.ycgco.specs.YCgCo.{losslessForward}
+use Rattle.codes.specs.Matrix.{matrixOf}
+use Rattle.codes.specs.Label.{among, labelled}
+use Rattle.codes.specs.declared.label.CodeKind.the-variants.{Matrix}
 use Rattle.setting.specs.Agreement.{depthsServed, agree}
 use Rattle.setting.specs.Edition.{inEdition}
-use Rattle.setting.specs.Label.{among, labelled}
-use Rattle.setting.specs.Matrix.{matrixOf}
 use Rattle.setting.specs.declared.Setting.{Setting}
 use Rattle.setting.specs.declared.Way.the-variants.{Forward}
-use Rattle.setting.specs.declared.label.CodeKind.the-variants.{Matrix}
 use Rattle.plan.specs.Conversion.{convert}
 use Rattle.admit.specs.Rules.{callAdmission}
 use Rattle.corkplover.specs.Answers.{labelAnswer, pixelAnswer}

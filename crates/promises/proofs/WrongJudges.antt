@@ -13,8 +13,8 @@ use Rattle.scan.specs.First.{orFound, firstOf, placeIf, placeInRow, firstPlace,
 use Rattle.planes.specs.Picture.{Picture, picture}
 use Rattle.planes.specs.Sizes.{outside, someLayout, sizeOutside, anyShort, layoutShort}
 use Rattle.ycgco.specs.YCgCo.{losslessForward}
-use Rattle.setting.specs.Label.{among, labelled}
-use Rattle.setting.specs.Matrix.{matrixOf}
+use Rattle.codes.specs.Matrix.{matrixOf}
+use Rattle.codes.specs.Label.{among, labelled}
 use Rattle.setting.specs.Agreement.{depthsServed, agree}
 use Rattle.setting.specs.declared.Way.the-variants.{Forward}
 use Rattle.plan.specs.Conversion.{convert}

@@ -13,9 +13,9 @@ use Rattle.sample.specs.declared.Pixel.{Pixel}
 use Rattle.refusal.specs.Rules.{first}
 use Rattle.scan.specs.First.{orFound, firstOf, placeIf, placeInRow, firstPlace, badSample}
 use Rattle.ycgco.specs.YCgCo.{losslessReverse}
+use Rattle.codes.specs.Matrix.{matrixOf}
+use Rattle.codes.specs.Label.{among, labelled}
 use Rattle.setting.specs.Agreement.{depthsServed, agree}
-use Rattle.setting.specs.Label.{among, labelled}
-use Rattle.setting.specs.Matrix.{matrixOf}
 use Rattle.setting.specs.declared.Way.the-variants.{Reverse}
 use Rattle.plan.specs.Conversion.{convert}
 use Rattle.admit.specs.Rules.{callAdmission}

@@ -2,11 +2,11 @@
 -- edition; which code that is has its one home in the table of matrices.
 use mathlib.Core.Path.{_≡_}
 use Prim.Native.Nat.{_+_}
-use Rattle.setting.specs.Matrix.{changedPlaces, ycgcoR, ycgcoRe, ycgcoRo}
+use Rattle.codes.specs.Matrix.{changedPlaces, ycgcoR, ycgcoRe, ycgcoRo}
+use Rattle.codes.specs.declared.matrix.Entry.{Entry}
+use Rattle.codes.specs.declared.matrix.Matrix.the-variants.{Served}
 use Rattle.setting.specs.Rules.{matrixIn}
 use Rattle.setting.specs.declared.Setting.{Setting}
-use Rattle.setting.specs.declared.matrix.Entry.{Entry}
-use Rattle.setting.specs.declared.matrix.Matrix.the-variants.{Served}
 
 -- the setting's matrix code means this
 abbrev pub Means : Setting → Entry → Type 0

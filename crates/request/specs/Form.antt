@@ -11,11 +11,11 @@ use Rattle.text.specs.declared.reading.Number.the-variants as number
 use Rattle.sample.specs.Depth.{mostDepth, M}
 use Rattle.meter.specs.declared.SampleKind.{SampleKind}
 use Rattle.meter.specs.declared.SampleKind.the-variants as kind
+use Rattle.codes.specs.declared.label.CodeKind.{CodeKind}
 use Rattle.setting.specs.declared.Call.{Call}
 use Rattle.setting.specs.declared.Call.the-variants.{Convert, Meter, ImageCheck}
 use Rattle.setting.specs.declared.Way.{Way}
 use Rattle.setting.specs.declared.Way.the-variants.{Forward, Reverse}
-use Rattle.setting.specs.declared.label.CodeKind.{CodeKind}
 use Rattle.request.specs.declared.Request.the-variants as request
 use Rattle.request.specs.declared.form.Asked.{Asked}
 use Rattle.request.specs.declared.form.Asked.the-variants.{For, Fault}

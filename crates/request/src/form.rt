@@ -4,12 +4,12 @@ ghost use mathlib.Core.Path.{_≡_};
 ghost use Prim.Native.Nat.{_≤_, _<_, min};
 ghost use Rattle.request.specs.Form.{numberWord, rangeWord, endOfWords, settingWords, pixelWords, expectedWith, expectedBefore, expectedAt, expectedSample, pixelForm, sampleForm, labelForm};
 use crate::Request;
+use codes::label::CodeKind;
 use meter::SampleKind;
 use sample::Pixel;
 use setting::Call;
 use setting::Setting;
 use setting::Way;
-use setting::label::CodeKind;
 use text::reading;
 use text::reading::Number;
 

@@ -1,14 +1,14 @@
 // Requests: what can be asked of the box about a pixel, a sample or a code, and what can be answered. The box itself is not known here.
 pub mod form;
 
+use codes::label::CodeKind;
+use codes::label::Label;
 use meter::SampleKind;
 use refusal::Refusal;
 use sample::Pixel;
 use setting::Call;
 use setting::Setting;
 use setting::Way;
-use setting::label::CodeKind;
-use setting::label::Label;
 
 pub enum Request {
     // convert a pixel, check it for a source, or meter it

@@ -13,20 +13,22 @@ use Rattle.sample.proofs.Choices.{both-true}
 use Rattle.refusal.specs.Rules.{first}
 use Rattle.refusal.specs.declared.Check.the-variants.{Passed}
 use Rattle.refusal.proofs.RuleLaws.{passed-over}
+use Rattle.codes.specs.Edition.{editionOf}
+use Rattle.codes.specs.Matrix.{common, added, matrixOf}
+use Rattle.codes.specs.Standing.{standing, entryOf, matrixBy}
+use Rattle.codes.specs.declared.edition.Edition.{Edition}
+use Rattle.codes.specs.declared.edition.Edition.the-variants.{Of2021, Draft, Published}
+use Rattle.codes.specs.declared.edition.EditionChecked.{EditionChecked}
+use Rattle.codes.specs.declared.edition.EditionChecked.the-variants as edition
+use Rattle.codes.specs.declared.matrix.Bond.{Bond}
+use Rattle.codes.specs.declared.matrix.Bond.the-variants.{Bits, Free}
+use Rattle.codes.specs.declared.matrix.Matrix.{Matrix}
+use Rattle.codes.specs.declared.matrix.Matrix.the-variants.{Served, Reserved, Unspecified, Unserved}
 use Rattle.setting.specs.Agreement.{bonded}
-use Rattle.setting.specs.Edition.{editionOf, inEdition}
-use Rattle.setting.specs.Matrix.{common, added, matrixOf}
-use Rattle.setting.specs.Rules.{standing, entryOf, matrixBy, matrixIn, entry, depths, settingRules, servedBy, served}
+use Rattle.setting.specs.Edition.{inEdition}
+use Rattle.setting.specs.Rules.{matrixIn, entry, depths, settingRules, servedBy, served}
 use Rattle.setting.specs.declared.Call.{Call}
 use Rattle.setting.specs.declared.Setting.{Setting}
-use Rattle.setting.specs.declared.edition.Edition.{Edition}
-use Rattle.setting.specs.declared.edition.Edition.the-variants.{Of2021, Draft, Published}
-use Rattle.setting.specs.declared.edition.EditionChecked.{EditionChecked}
-use Rattle.setting.specs.declared.edition.EditionChecked.the-variants as edition
-use Rattle.setting.specs.declared.matrix.Bond.{Bond}
-use Rattle.setting.specs.declared.matrix.Bond.the-variants.{Bits, Free}
-use Rattle.setting.specs.declared.matrix.Matrix.{Matrix}
-use Rattle.setting.specs.declared.matrix.Matrix.the-variants.{Served, Reserved, Unspecified, Unserved}
 use Rattle.setting.proofs.ReadyLaws.{bonded-so}
 
 -- ---- what two tables have at one code

@@ -16,24 +16,25 @@ use Rattle.refusal.proofs.RuleLaws.{passed-over}
 use Rattle.levels.specs.Conversion.{MatrixFits}
 use Rattle.levels.specs.Equations.{allParts, weights}
 use Rattle.levels.proofs.Bounds.{luma-fits, shares}
-use Rattle.setting.specs.Edition.{editionOf}
-use Rattle.setting.specs.Matrix.{lumaEntry}
+use Rattle.codes.specs.Edition.{editionOf}
+use Rattle.codes.specs.Matrix.{lumaEntry}
+use Rattle.codes.specs.Standing.{entryOf}
+use Rattle.codes.specs.declared.matrix.Bond.{Bond}
+use Rattle.codes.specs.declared.matrix.Bond.the-variants.{Bits, Free}
+use Rattle.codes.specs.declared.matrix.Entry.{Entry}
+use Rattle.codes.specs.declared.matrix.Formulas.{Formulas}
+use Rattle.codes.specs.declared.matrix.Formulas.the-variants.{ChangePlaces, YCgCo, Levels}
+use Rattle.codes.specs.declared.matrix.Lossless.the-variants.{From, Never}
+use Rattle.codes.specs.declared.matrix.Matrix.{Matrix}
+use Rattle.codes.specs.declared.matrix.Matrix.the-variants as matrix
+use Rattle.codes.proofs.Table.{at-code}
 use Rattle.setting.specs.Agreement.{depthsServed, bonded, agree, keeps, answers}
-use Rattle.setting.specs.Rules.{entryOf, matrixIn, entry, depths, depthRules, entryRules, settingRules, served}
+use Rattle.setting.specs.Rules.{matrixIn, entry, depths, depthRules, entryRules, settingRules, served}
 use Rattle.setting.specs.Ready.{Agreed, Ready, Keeping, Keeps}
 use Rattle.setting.specs.declared.Call.{Call}
 use Rattle.setting.specs.declared.Call.the-variants as call
 use Rattle.setting.specs.declared.Setting.{Setting}
 use Rattle.setting.specs.declared.admission.Served.{Served}
-use Rattle.setting.specs.declared.matrix.Bond.{Bond}
-use Rattle.setting.specs.declared.matrix.Bond.the-variants.{Bits, Free}
-use Rattle.setting.specs.declared.matrix.Entry.{Entry}
-use Rattle.setting.specs.declared.matrix.Formulas.{Formulas}
-use Rattle.setting.specs.declared.matrix.Formulas.the-variants.{ChangePlaces, YCgCo, Levels}
-use Rattle.setting.specs.declared.matrix.Lossless.the-variants.{From, Never}
-use Rattle.setting.specs.declared.matrix.Matrix.{Matrix}
-use Rattle.setting.specs.declared.matrix.Matrix.the-variants as matrix
-use Rattle.setting.proofs.Table.{at-code}
 
 -- what the table of matrices gives each kind of formulas
 abbrev Bound : Bond → Type 0

@@ -7,13 +7,13 @@ use Rattle.sample.specs.declared.ChromaDepth.{ChromaDepth}
 use Rattle.sample.specs.declared.Depths.{Depths}
 use Rattle.sample.specs.declared.LumaDepth.{LumaDepth}
 use Rattle.sample.specs.declared.RgbDepth.{RgbDepth}
+use Rattle.codes.specs.declared.matrix.Bond.{Bond}
+use Rattle.codes.specs.declared.matrix.Bond.the-variants.{Bits, Free}
+use Rattle.codes.specs.declared.matrix.Entry.{Entry}
+use Rattle.codes.specs.declared.matrix.Lossless.{Lossless}
+use Rattle.codes.specs.declared.matrix.Lossless.the-variants.{From, Never}
 use Rattle.setting.specs.declared.Call.{Call}
 use Rattle.setting.specs.declared.Call.the-variants.{Convert, Meter, ImageCheck}
-use Rattle.setting.specs.declared.matrix.Bond.{Bond}
-use Rattle.setting.specs.declared.matrix.Bond.the-variants.{Bits, Free}
-use Rattle.setting.specs.declared.matrix.Entry.{Entry}
-use Rattle.setting.specs.declared.matrix.Lossless.{Lossless}
-use Rattle.setting.specs.declared.matrix.Lossless.the-variants.{From, Never}
 
 -- rule 6 speaks of depths for which this is false
 unfoldable pub depthsServed : ℕ → ℕ → ℕ → ℕ → Bool

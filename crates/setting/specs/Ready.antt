@@ -4,9 +4,9 @@ use Prim.Native.Nat.{_+_, _≤_}
 use Rattle.sample.specs.Depth.{ThreeDepths}
 use Rattle.levels.specs.Conversion.{MatrixFits, LevelDepths}
 use Rattle.levels.specs.declared.LevelSetting.{LevelSetting}
+use Rattle.codes.specs.declared.matrix.Formulas.{Formulas}
+use Rattle.codes.specs.declared.matrix.Formulas.the-variants.{ChangePlaces, YCgCo, Levels}
 use Rattle.setting.specs.declared.admission.Served.{Served}
-use Rattle.setting.specs.declared.matrix.Formulas.{Formulas}
-use Rattle.setting.specs.declared.matrix.Formulas.the-variants.{ChangePlaces, YCgCo, Levels}
 
 abbrev pub levelSetting : Served → LevelSetting
 levelSetting s = record { depths = s .depths; «rgb_full» = s .«rgb_full»; «ycc_full» = s .«ycc_full» }

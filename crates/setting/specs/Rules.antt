@@ -10,40 +10,21 @@ use Rattle.sample.specs.declared.DepthsChecked.the-variants as checked
 use Rattle.refusal.specs.Rules.{Rule, rule, first}
 use Rattle.refusal.specs.declared.Check.{Check}
 use Rattle.refusal.specs.declared.Check.the-variants as check
-use Rattle.setting.specs.Edition.{editionOf}
-use Rattle.setting.specs.Matrix.{changedPlaces, matrixOf}
-use Rattle.setting.specs.Label.{primariesLabel, transferLabel, isReserved}
+use Rattle.codes.specs.Edition.{editionOf}
+use Rattle.codes.specs.Label.{primariesLabel, transferLabel, isReserved}
+use Rattle.codes.specs.Standing.{standing, entryOf, matrixBy}
+use Rattle.codes.specs.declared.edition.EditionChecked.{EditionChecked}
+use Rattle.codes.specs.declared.edition.EditionChecked.the-variants as edition
+use Rattle.codes.specs.declared.matrix.Entry.{Entry}
+use Rattle.codes.specs.declared.matrix.Matrix.{Matrix}
 use Rattle.setting.specs.Agreement.{depthsServed, agree, answers}
 use Rattle.setting.specs.declared.Call.{Call}
 use Rattle.setting.specs.declared.Setting.{Setting}
 use Rattle.setting.specs.declared.admission.Admission.{Admission}
 use Rattle.setting.specs.declared.admission.Admission.the-variants as admission
 use Rattle.setting.specs.declared.admission.Served.{Served}
-use Rattle.setting.specs.declared.edition.EditionChecked.{EditionChecked}
-use Rattle.setting.specs.declared.edition.EditionChecked.the-variants as edition
-use Rattle.setting.specs.declared.matrix.Entry.{Entry}
-use Rattle.setting.specs.declared.matrix.Matrix.{Matrix}
-use Rattle.setting.specs.declared.matrix.Matrix.the-variants as matrix
 
--- the rule that a matrix meets by itself: 1 reserved, 2 unspecified, 3 known and not served, 0 served
-abbrev pub standing : Matrix → ℕ
-standing (matrix.Served e) = 0
-standing matrix.Reserved = 1
-standing matrix.Unspecified = 2
-standing matrix.Unserved = 3
-
--- the entry of a served matrix; rules 1 to 3 refuse every other one before this is asked
-abbrev pub entryOf : Matrix → Entry
-entryOf (matrix.Served e) = e
-entryOf matrix.Reserved = changedPlaces
-entryOf matrix.Unspecified = changedPlaces
-entryOf matrix.Unserved = changedPlaces
-
--- what a code means in an edition: nothing in one that is none, which rule 12 refuses before this is asked
-abbrev pub matrixBy : EditionChecked → ℕ → Matrix
-matrixBy (edition.Edition e) code = matrixOf e code
-matrixBy edition.Unknown code = matrix.Reserved
-
+-- what its matrix code means in its edition
 abbrev pub matrixIn : Setting → Matrix
 matrixIn s = matrixBy (editionOf (s .edition)) (s .matrix)
 

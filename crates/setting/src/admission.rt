@@ -2,19 +2,17 @@
 ghost use mathlib.Core.Path.{_≡_};
 ghost use mathlib.Core.Bool.{_&&_};
 ghost use Rattle.refusal.specs.Rules.{first, numbered};
+ghost use Rattle.codes.specs.Standing.{entryOf};
 ghost use Rattle.setting.specs.Agreement.{same, isDeeper, bonded, deeperBy, agree, keeps, answers};
-ghost use Rattle.setting.specs.Rules.{depthRules, entryOf, entryRules, matrixRules, servedDepths, servedBy, admitted, settingAdmission};
+ghost use Rattle.setting.specs.Rules.{depthRules, entryRules, matrixRules, servedDepths, servedBy, admitted, settingAdmission};
 use crate::Call;
 use crate::Setting;
-use crate::edition;
-use crate::edition::EditionChecked;
-use crate::label;
-use crate::matrix;
-use crate::matrix::Bond;
-use crate::matrix::Entry;
-use crate::matrix::Formulas;
-use crate::matrix::Lossless;
-use crate::matrix::Matrix;
+use codes::edition::EditionChecked;
+use codes::matrix::Bond;
+use codes::matrix::Entry;
+use codes::matrix::Formulas;
+use codes::matrix::Lossless;
+use codes::matrix::Matrix;
 use refusal::Refusal;
 use sample::ChromaDepth;
 use sample::Depths;
@@ -175,10 +173,10 @@ fn admit_entry(call: Call, e: Entry, s: Setting) -> Admission
 {
     let primaries = s.primaries;
     let transfer = s.transfer;
-    if label::is_reserved(label::primaries_label(primaries)) {
+    if codes::label::is_reserved(codes::label::primaries_label(primaries)) {
         return refused(Refusal::RESERVED_PRIMARIES);
     }
-    if label::is_reserved(label::transfer_label(transfer)) {
+    if codes::label::is_reserved(codes::label::transfer_label(transfer)) {
         return refused(Refusal::RESERVED_TRANSFER);
     }
     admit_depths(call, e, s)
@@ -209,8 +207,8 @@ pub fn admit(call: Call, s: Setting) -> Admission
 {
     let number = s.edition;
     let code = s.matrix;
-    let EditionChecked::Edition(edition) = edition::edition_of(number) else {
+    let EditionChecked::Edition(edition) = codes::edition::edition_of(number) else {
         return without_edition();
     };
-    admit_matrix(call, matrix::matrix_of(edition, code), s)
+    admit_matrix(call, codes::matrix::matrix_of(edition, code), s)
 }

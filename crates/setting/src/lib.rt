@@ -1,8 +1,5 @@
-// Settings: what the codes mean in each edition, and which of rules 12, 1 to 7 and 11 refuses one first.
+// Settings, and which of rules 12, 1 to 7 and 11 refuses one first.
 pub mod admission;
-pub mod edition;
-pub mod label;
-pub mod matrix;
 
 ghost use mathlib.Core.Path.{_≡_};
 ghost use Rattle.setting.specs.Call.{inputOf, reads};

@@ -4,17 +4,18 @@ use mathlib.Core.Path.{_≡_, sym, ap, _∙_}
 use mathlib.Core.List.{_∷_}
 use borrow.Author.Needs.{needs}
 use Rattle.refusal.specs.Rules.{rule, first, numbered}
-use Rattle.setting.specs.Edition.{editionOf}
-use Rattle.setting.specs.Matrix.{matrixOf}
-use Rattle.setting.specs.Rules.{entryOf, matrixBy, isUnknown, matrixRules, servedBy, admitted, settingAdmission}
+use Rattle.codes.specs.Edition.{editionOf}
+use Rattle.codes.specs.Matrix.{matrixOf}
+use Rattle.codes.specs.Standing.{entryOf, matrixBy}
+use Rattle.codes.specs.declared.edition.Edition.{Edition}
+use Rattle.codes.specs.declared.edition.EditionChecked.{EditionChecked}
+use Rattle.codes.specs.declared.edition.EditionChecked.the-variants as edition
+use Rattle.codes.specs.declared.matrix.Matrix.{Matrix}
+use Rattle.setting.specs.Rules.{isUnknown, matrixRules, servedBy, admitted, settingAdmission}
 use Rattle.setting.specs.declared.Call.{Call}
 use Rattle.setting.specs.declared.Setting.{Setting}
 use Rattle.setting.specs.declared.admission.Admission.{Admission}
 use Rattle.setting.specs.declared.admission.Admission.the-variants as admission
-use Rattle.setting.specs.declared.edition.Edition.{Edition}
-use Rattle.setting.specs.declared.edition.EditionChecked.{EditionChecked}
-use Rattle.setting.specs.declared.edition.EditionChecked.the-variants as edition
-use Rattle.setting.specs.declared.matrix.Matrix.{Matrix}
 use Rattle.setting.proofs.admission.admit.Statement.{statement}
 use Rattle.setting.proofs.admission.admit.Tie as tie
 

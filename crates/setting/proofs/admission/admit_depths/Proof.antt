@@ -8,11 +8,11 @@ use Rattle.sample.specs.declared.DepthsChecked.the-variants as checked
 use Rattle.sample.proofs.DepthLaws.{was-outside, were-depths}
 use Rattle.refusal.specs.Rules.{first, numbered}
 use Rattle.refusal.specs.declared.Check.the-variants.{Passed, Refused}
+use Rattle.codes.specs.declared.matrix.Entry.{Entry}
 use Rattle.setting.specs.Agreement.{depthsServed, agree, answers}
 use Rattle.setting.specs.Rules.{depths, depthRules, servedDepths}
 use Rattle.setting.specs.declared.Call.{Call}
 use Rattle.setting.specs.declared.Setting.{Setting}
-use Rattle.setting.specs.declared.matrix.Entry.{Entry}
 use Rattle.setting.proofs.admission.admit_depths.Statement.{statement}
 use Rattle.setting.proofs.admission.admit_depths.Tie as tie
 

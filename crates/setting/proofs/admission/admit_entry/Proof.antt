@@ -4,12 +4,12 @@ use mathlib.Core.Bool.{Bool, true, false}
 use borrow.Author.Needs.{needs}
 use Rattle.refusal.specs.Rules.{first, numbered}
 use Rattle.refusal.specs.declared.Check.the-variants.{Refused}
-use Rattle.setting.specs.Label.{isReserved, primariesLabel, transferLabel}
+use Rattle.codes.specs.Label.{isReserved, primariesLabel, transferLabel}
+use Rattle.codes.specs.declared.label.Label.{Label}
+use Rattle.codes.specs.declared.matrix.Entry.{Entry}
 use Rattle.setting.specs.Rules.{depthRules, entryRules}
 use Rattle.setting.specs.declared.Call.{Call}
 use Rattle.setting.specs.declared.Setting.{Setting}
-use Rattle.setting.specs.declared.label.Label.{Label}
-use Rattle.setting.specs.declared.matrix.Entry.{Entry}
 use Rattle.setting.proofs.admission.admit_entry.Statement.{statement}
 use Rattle.setting.proofs.admission.admit_entry.Tie as tie
 

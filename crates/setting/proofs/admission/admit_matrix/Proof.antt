@@ -2,11 +2,12 @@
 use mathlib.Core.Path.{_≡_, sym, ap, _∙_}
 use borrow.Author.Needs.{needs}
 use Rattle.refusal.specs.Rules.{first}
-use Rattle.setting.specs.Rules.{entryOf, matrixRules, servedBy, admitted}
+use Rattle.codes.specs.Standing.{entryOf}
+use Rattle.codes.specs.declared.matrix.Matrix.{Matrix}
+use Rattle.setting.specs.Rules.{matrixRules, servedBy, admitted}
 use Rattle.setting.specs.declared.Call.{Call}
 use Rattle.setting.specs.declared.Setting.{Setting}
 use Rattle.setting.specs.declared.admission.Admission.{Admission}
-use Rattle.setting.specs.declared.matrix.Matrix.{Matrix}
 use Rattle.setting.proofs.admission.admit_matrix.Statement.{statement}
 use Rattle.setting.proofs.admission.admit_matrix.Tie as tie
 

@@ -1,4 +1,4 @@
--- `setting::matrix::matrix_of` meets its contract: an arm for one code is that code's entry of the table, and an arm for a range is what the
+-- `codes::matrix::matrix_of` meets its contract: an arm for one code is that code's entry of the table, and an arm for a range is what the
 -- table has at every code that the match has left for it. Past 14 the edition decides.
 use mathlib.Core.Path.{_≡_, refl, ap}
 use mathlib.Core.List.{_++_}
@@ -8,16 +8,16 @@ use borrow.Author.Needs.{needs}
 use borrow.Author.Tests.{eqb-true}
 use lib.Dec.{eqb}
 use lib.ListN.{length}
-use Rattle.setting.specs.Matrix.{common, added, matrixOf}
-use Rattle.setting.specs.Rules.{standing}
-use Rattle.setting.specs.declared.edition.Edition.{Edition}
-use Rattle.setting.specs.declared.edition.Edition.the-variants.{Of2021, Draft, Published}
-use Rattle.setting.specs.declared.matrix.Matrix.{Matrix}
-use Rattle.setting.specs.declared.matrix.Matrix.the-variants as matrix
-use Rattle.setting.proofs.Codes.{none, from, below, passed, by-clues, by-test}
-use Rattle.setting.proofs.Table.{past-end}
-use Rattle.setting.proofs.matrix.matrix_of.Statement.{statement}
-use Rattle.setting.proofs.matrix.matrix_of.Tie as tie
+use Rattle.codes.specs.Matrix.{common, added, matrixOf}
+use Rattle.codes.specs.Standing.{standing}
+use Rattle.codes.specs.declared.edition.Edition.{Edition}
+use Rattle.codes.specs.declared.edition.Edition.the-variants.{Of2021, Draft, Published}
+use Rattle.codes.specs.declared.matrix.Matrix.{Matrix}
+use Rattle.codes.specs.declared.matrix.Matrix.the-variants as matrix
+use Rattle.codes.proofs.Codes.{none, from, below, passed, by-clues, by-test}
+use Rattle.codes.proofs.Table.{past-end}
+use Rattle.codes.proofs.matrix.matrix_of.Statement.{statement}
+use Rattle.codes.proofs.matrix.matrix_of.Tie as tie
 
 -- a matrix that is not served, by the rule that it meets
 unserved : (m : Matrix) → standing m ≡ 3 → matrix.Unserved ≡ m

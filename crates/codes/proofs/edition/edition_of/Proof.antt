@@ -1,11 +1,11 @@
--- `setting::edition::edition_of` meets its contract: each of the three by its number, and past them none.
+-- `codes::edition::edition_of` meets its contract: each of the three by its number, and past them none.
 use mathlib.Core.Path.{sym}
 use native.Mathlib.Omega.{arith}
 use lib.ListN.{List·getD-eq-default}
-use Rattle.setting.specs.Edition.{editions}
-use Rattle.setting.specs.declared.edition.EditionChecked.the-variants.{Unknown}
-use Rattle.setting.proofs.edition.edition_of.Statement.{statement}
-use Rattle.setting.proofs.edition.edition_of.Tie as tie
+use Rattle.codes.specs.Edition.{editions}
+use Rattle.codes.specs.declared.edition.EditionChecked.the-variants.{Unknown}
+use Rattle.codes.proofs.edition.edition_of.Statement.{statement}
+use Rattle.codes.proofs.edition.edition_of.Tie as tie
 
 returns : tie.Need-returns
 returns c = rw (c .match .keys1)

@@ -1,4 +1,4 @@
--- `setting::label::transfer_label` meets its contract: an arm for one code has that code's label, and an arm for a range the label that every
+-- `codes::label::transfer_label` meets its contract: an arm for one code has that code's label, and an arm for a range the label that every
 -- code has that the match has left for it.
 use mathlib.Core.Path.{refl}
 use mathlib.Core.Logic.{⊎-elim}
@@ -6,11 +6,11 @@ use Prim.Native.Nat.{_<_}
 use native.Mathlib.Omega.{arith}
 use borrow.Author.Tests.{eqb-true}
 use lib.Dec.{eqb}
-use Rattle.setting.specs.Label.{among, labelled, transferLabel, labelNumber}
-use Rattle.setting.proofs.Codes.{none, from, below, passed, both-passed, by-test}
-use Rattle.setting.proofs.LabelLaws.{assigned, reserved}
-use Rattle.setting.proofs.label.transfer_label.Statement.{statement}
-use Rattle.setting.proofs.label.transfer_label.Tie as tie
+use Rattle.codes.specs.Label.{among, labelled, transferLabel, labelNumber}
+use Rattle.codes.proofs.Codes.{none, from, below, passed, both-passed, by-test}
+use Rattle.codes.proofs.LabelLaws.{assigned, reserved}
+use Rattle.codes.proofs.label.transfer_label.Statement.{statement}
+use Rattle.codes.proofs.label.transfer_label.Tie as tie
 
 returns : tie.Need-returns
 unfolding labelled among

@@ -3,14 +3,14 @@ use mathlib.Core.Path.{_≡_, sym}
 use mathlib.Core.List.{List, [], _∷_, _++_}
 use Prim.Native.Nat.{ℕ, zero, suc, _≤_}
 use lib.ListN.{length, getD, List·getD-eq-default}
-use Rattle.setting.specs.Matrix.{common, added, matrixOf}
-use Rattle.setting.specs.Rules.{matrixBy}
-use Rattle.setting.specs.declared.edition.Edition.{Edition}
-use Rattle.setting.specs.declared.edition.Edition.the-variants.{Of2021, Draft, Published}
-use Rattle.setting.specs.declared.edition.EditionChecked.{EditionChecked}
-use Rattle.setting.specs.declared.edition.EditionChecked.the-variants as edition
-use Rattle.setting.specs.declared.matrix.Matrix.{Matrix}
-use Rattle.setting.specs.declared.matrix.Matrix.the-variants.{Reserved}
+use Rattle.codes.specs.Matrix.{common, added, matrixOf}
+use Rattle.codes.specs.Standing.{matrixBy}
+use Rattle.codes.specs.declared.edition.Edition.{Edition}
+use Rattle.codes.specs.declared.edition.Edition.the-variants.{Of2021, Draft, Published}
+use Rattle.codes.specs.declared.edition.EditionChecked.{EditionChecked}
+use Rattle.codes.specs.declared.edition.EditionChecked.the-variants as edition
+use Rattle.codes.specs.declared.matrix.Matrix.{Matrix}
+use Rattle.codes.specs.declared.matrix.Matrix.the-variants.{Reserved}
 
 -- all rows of all tables: those that the editions have in common, and each one's own
 abbrev pub rows : List Matrix

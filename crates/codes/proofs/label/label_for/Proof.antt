@@ -1,7 +1,7 @@
--- `setting::label::label_for` meets its contract: each kind of code goes to its own table.
+-- `codes::label::label_for` meets its contract: each kind of code goes to its own table.
 use borrow.Author.Needs.{needs}
-use Rattle.setting.proofs.label.label_for.Statement.{statement}
-use Rattle.setting.proofs.label.label_for.Tie as tie
+use Rattle.codes.proofs.label.label_for.Statement.{statement}
+use Rattle.codes.proofs.label.label_for.Tie as tie
 
 returns : tie.Need-returns
 returns c = rw (c .before .enum-told .given .1) (c .primaries-label .ensures)

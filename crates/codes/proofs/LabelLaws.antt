@@ -2,9 +2,9 @@
 use mathlib.Core.Path.{_≡_, refl}
 use Prim.Native.Nat.{ℕ}
 use native.Mathlib.Omega.{arith}
-use Rattle.setting.specs.Label.{labelNumber}
-use Rattle.setting.specs.declared.label.Label.{Label}
-use Rattle.setting.specs.declared.label.Label.the-variants.{Assigned, Unspecified, Reserved}
+use Rattle.codes.specs.Label.{labelNumber}
+use Rattle.codes.specs.declared.label.Label.{Label}
+use Rattle.codes.specs.declared.label.Label.the-variants.{Assigned, Unspecified, Reserved}
 
 pub assigned : (l : Label) → labelNumber l ≡ 0 → Assigned ≡ l
 assigned Assigned e = refl

@@ -1,6 +1,6 @@
 // The editions of H.273 that a label may have been written by. They differ in their matrix codes.
 ghost use mathlib.Core.Path.{_≡_};
-ghost use Rattle.setting.specs.Edition.{editionOf};
+ghost use Rattle.codes.specs.Edition.{editionOf};
 
 pub enum Edition {
     // the text of 2021

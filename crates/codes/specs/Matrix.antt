@@ -6,14 +6,14 @@ use Prim.Native.Nat.{ℕ}
 use lib.ListN.{getD}
 use Rattle.sample.specs.Depth.{mostDepth, mostLevelDepth}
 use Rattle.levels.specs.Equations.{weights, lumaMatrix}
-use Rattle.setting.specs.declared.edition.Edition.{Edition}
-use Rattle.setting.specs.declared.edition.Edition.the-variants.{Of2021, Draft, Published}
-use Rattle.setting.specs.declared.matrix.Bond.the-variants.{Bits, Free}
-use Rattle.setting.specs.declared.matrix.Entry.{Entry}
-use Rattle.setting.specs.declared.matrix.Formulas.the-variants.{ChangePlaces, YCgCo, Levels}
-use Rattle.setting.specs.declared.matrix.Lossless.the-variants.{From, Never}
-use Rattle.setting.specs.declared.matrix.Matrix.{Matrix}
-use Rattle.setting.specs.declared.matrix.Matrix.the-variants.{Served, Unserved, Unspecified, Reserved}
+use Rattle.codes.specs.declared.edition.Edition.{Edition}
+use Rattle.codes.specs.declared.edition.Edition.the-variants.{Of2021, Draft, Published}
+use Rattle.codes.specs.declared.matrix.Bond.the-variants.{Bits, Free}
+use Rattle.codes.specs.declared.matrix.Entry.{Entry}
+use Rattle.codes.specs.declared.matrix.Formulas.the-variants.{ChangePlaces, YCgCo, Levels}
+use Rattle.codes.specs.declared.matrix.Lossless.the-variants.{From, Never}
+use Rattle.codes.specs.declared.matrix.Matrix.{Matrix}
+use Rattle.codes.specs.declared.matrix.Matrix.the-variants.{Served, Unserved, Unspecified, Reserved}
 
 -- code 0
 abbrev pub changedPlaces : Entry

@@ -1,7 +1,7 @@
--- `setting::matrix::luma` meets its contract.
+-- `codes::matrix::luma` meets its contract.
 use borrow.Author.Needs.{needs}
-use Rattle.setting.proofs.matrix.luma.Statement.{statement}
-use Rattle.setting.proofs.matrix.luma.Tie as tie
+use Rattle.codes.proofs.matrix.luma.Statement.{statement}
+use Rattle.codes.proofs.matrix.luma.Tie as tie
 
 returns : tie.Need-returns
 returns c = rw (c .luma .ensures)

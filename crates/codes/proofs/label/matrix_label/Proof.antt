@@ -1,10 +1,10 @@
--- `setting::label::matrix_label` meets its contract: the label follows from what the code means.
+-- `codes::label::matrix_label` meets its contract: the label follows from what the code means.
 use mathlib.Core.Path.{_≡_, sym, ap, _∙_}
 use borrow.Author.Needs.{needs}
-use Rattle.setting.specs.Label.{labelOf}
-use Rattle.setting.specs.declared.matrix.Matrix.{Matrix}
-use Rattle.setting.proofs.label.matrix_label.Statement.{statement}
-use Rattle.setting.proofs.label.matrix_label.Tie as tie
+use Rattle.codes.specs.Label.{labelOf}
+use Rattle.codes.specs.declared.matrix.Matrix.{Matrix}
+use Rattle.codes.proofs.label.matrix_label.Statement.{statement}
+use Rattle.codes.proofs.label.matrix_label.Tie as tie
 
 -- what the code means, read off the variant that was met
 met : {m n k : Matrix} → m ≡ n → m ≡ k → labelOf k ≡ labelOf n

@@ -3,14 +3,14 @@ use mathlib.Core.Bool.{Bool, true, false, cond, _&&_}
 use mathlib.Core.List.{List, [], _∷_}
 use Prim.Native.Nat.{ℕ}
 use lib.Dec.{leb, eqb}
-use Rattle.setting.specs.declared.edition.Edition.{Edition}
-use Rattle.setting.specs.declared.label.CodeKind.{CodeKind}
-use Rattle.setting.specs.declared.label.CodeKind.the-variants as kind
-use Rattle.setting.specs.declared.label.Label.{Label}
-use Rattle.setting.specs.declared.label.Label.the-variants as label
-use Rattle.setting.specs.declared.matrix.Matrix.{Matrix}
-use Rattle.setting.specs.declared.matrix.Matrix.the-variants.{Served, Unserved, Unspecified, Reserved}
-use Rattle.setting.specs.Matrix.{matrixOf}
+use Rattle.codes.specs.declared.edition.Edition.{Edition}
+use Rattle.codes.specs.declared.label.CodeKind.{CodeKind}
+use Rattle.codes.specs.declared.label.CodeKind.the-variants as kind
+use Rattle.codes.specs.declared.label.Label.{Label}
+use Rattle.codes.specs.declared.label.Label.the-variants as label
+use Rattle.codes.specs.declared.matrix.Matrix.{Matrix}
+use Rattle.codes.specs.declared.matrix.Matrix.the-variants.{Served, Unserved, Unspecified, Reserved}
+use Rattle.codes.specs.Matrix.{matrixOf}
 
 -- the codes from one number to another, both among them
 pub record Span : Type 0 where

@@ -2,7 +2,7 @@
 ghost use mathlib.Core.Path.{_≡_};
 ghost use Prim.Native.Nat.{_+_, _≤_, _<_};
 ghost use Rattle.levels.specs.Equations.{allParts};
-ghost use Rattle.setting.specs.Matrix.{changedPlaces, ycgco, lumaEntry, matrixOf};
+ghost use Rattle.codes.specs.Matrix.{changedPlaces, ycgco, lumaEntry, matrixOf};
 use crate::edition::Edition;
 use levels::equations::LevelMatrix;
 
@@ -115,7 +115,7 @@ fn added(edition: Edition, code: u8) -> Matrix
     }
 }
 
-pub(crate) fn matrix_of(edition: Edition, code: u8) -> Matrix
+pub fn matrix_of(edition: Edition, code: u8) -> Matrix
     ensures { λ r. ⌜ r ≡ matrixOf edition code ⌝ }
 {
     match code {

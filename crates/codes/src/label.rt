@@ -1,6 +1,6 @@
 // What H.273 says of a code point of each kind.
 ghost use mathlib.Core.Path.{_≡_};
-ghost use Rattle.setting.specs.Label.{primariesLabel, transferLabel, matrixLabel, labelFor, isReserved};
+ghost use Rattle.codes.specs.Label.{primariesLabel, transferLabel, matrixLabel, labelFor, isReserved};
 use crate::edition::Edition;
 use crate::matrix::Matrix;
 
@@ -17,7 +17,7 @@ pub enum Label {
     Reserved,
 }
 
-pub(crate) fn primaries_label(code: u8) -> Label
+pub fn primaries_label(code: u8) -> Label
     ensures { λ r. ⌜ r ≡ primariesLabel code ⌝ }
 {
     match code {
@@ -27,7 +27,7 @@ pub(crate) fn primaries_label(code: u8) -> Label
     }
 }
 
-pub(crate) fn transfer_label(code: u8) -> Label
+pub fn transfer_label(code: u8) -> Label
     ensures { λ r. ⌜ r ≡ transferLabel code ⌝ }
 {
     match code {
@@ -59,7 +59,7 @@ pub fn label_for(kind: CodeKind, edition: Edition, code: u8) -> Label
     }
 }
 
-pub(crate) fn is_reserved(label: Label) -> bool
+pub fn is_reserved(label: Label) -> bool
     ensures { λ r. ⌜ r ≡ isReserved label ⌝ }
 {
     match label {

@@ -1,15 +1,15 @@
--- `setting::matrix::added` meets its contract: each edition's own codes, and past them none.
+-- `codes::matrix::added` meets its contract: each edition's own codes, and past them none.
 use mathlib.Core.Path.{_≡_, refl, sym, ap, _∙_}
 use Prim.Native.Nat.{ℕ}
 use native.Mathlib.Omega.{arith}
 use borrow.Author.Needs.{needs}
-use Rattle.setting.specs.Matrix.{matrixOf}
-use Rattle.setting.specs.declared.edition.Edition.{Edition}
-use Rattle.setting.specs.declared.matrix.Matrix.{Matrix}
-use Rattle.setting.specs.declared.matrix.Matrix.the-variants.{Served}
-use Rattle.setting.proofs.Table.{past-end}
-use Rattle.setting.proofs.matrix.added.Statement.{statement}
-use Rattle.setting.proofs.matrix.added.Tie as tie
+use Rattle.codes.specs.Matrix.{matrixOf}
+use Rattle.codes.specs.declared.edition.Edition.{Edition}
+use Rattle.codes.specs.declared.matrix.Matrix.{Matrix}
+use Rattle.codes.specs.declared.matrix.Matrix.the-variants.{Served}
+use Rattle.codes.proofs.Table.{past-end}
+use Rattle.codes.proofs.matrix.added.Statement.{statement}
+use Rattle.codes.proofs.matrix.added.Tie as tie
 
 -- the edition and the code that were met
 met : {e f : Edition} {n k : ℕ} {m : Matrix} → e ≡ f → n ≡ k → m ≡ matrixOf f k → m ≡ matrixOf e n
