@@ -1,3 +1,4 @@
 -- Laws of admission.
 pub mod AdmitLaws
 pub mod Accepted
+pub mod LetIn

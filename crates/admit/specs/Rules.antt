@@ -15,6 +15,7 @@ use Rattle.setting.specs.Rules.{depths, served, settingRules, admitted}
 use Rattle.setting.specs.declared.Call.{Call}
 use Rattle.setting.specs.declared.Call.the-variants as call
 use Rattle.setting.specs.declared.Setting.{Setting}
+use Rattle.setting.specs.declared.Way.{Way}
 use Rattle.setting.specs.declared.admission.Admission.{Admission}
 use Rattle.scan.specs.First.{firstBad, badFound, withSample, badRule}
 use Rattle.planes.specs.Picture.{Picture, picture, layoutOf}
@@ -46,6 +47,10 @@ pictureRules call s a others =
 abbrev pub pictureAdmission : Call → Setting → Picture → List Layout → Admission
 pictureAdmission call s a others =
     callAdmission call s (sizeRules (a .width) (a .height) (layoutOf a ∷ others)) (beyondDepth (reads call) (depths s) a)
+
+-- a conversion of picture a into planes of layout b
+abbrev pub frameAdmission : Way → Setting → Picture → Layout → Admission
+frameAdmission way s a b = pictureAdmission (call.Convert way) s a (b ∷ [])
 
 -- a call on a pixel, which is a picture of one row and one column and has no sizes of its own
 abbrev pub pixelPicture : Pixel → Picture

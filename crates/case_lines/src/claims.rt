@@ -1,12 +1,12 @@
 // Cases on what is claimed of a frame: three planes more, judged by the box.
 ghost use mathlib.Core.Path.{_≡_};
-ghost use Rattle.frame.specs.Frame.{inputPicture};
-ghost use Rattle.judge.specs.Judge.{claimedPicture, judgement};
+ghost use Rattle.paint.specs.Paint.{inputPicture, outputPicture};
+ghost use Rattle.judge.specs.Judge.{judgement};
 use crate::pictures::ROOM;
 use case_words::plane;
 use corkplover::judging;
-use frame::Size;
 use judge::Judgement;
+use paint::Size;
 use setting::Setting;
 use setting::Way;
 
@@ -22,7 +22,7 @@ fn judged(
     b2: &[u16],
 ) -> Judgement
     ensures { λ x. ⌜ x ≡ judgement way s (inputPicture z (now (a0 .entry)) (now (a1 .entry)) (now (a2 .entry)))
-        (claimedPicture z (now (b0 .entry)) (now (b1 .entry)) (now (b2 .entry))) ⌝ }
+        (outputPicture z (now (b0 .entry)) (now (b1 .entry)) (now (b2 .entry))) ⌝ }
 {
     match way {
         Way::Forward => judging::judge_forward(s, z, a0, a1, a2, b0, b1, b2),

@@ -1,6 +1,7 @@
 // Cases on whole frames and on images, by their words from the edition on.
 ghost use lib.ListN.{length};
-ghost use Rattle.frame.specs.Frame.{inputPicture, outputLayout, PlanesAfter, FrameAfter};
+ghost use Rattle.paint.specs.Paint.{inputPicture, outputLayout};
+ghost use Rattle.frame.specs.Frame.{PlanesAfter, FrameAfter};
 use crate::claims;
 use case_words::GAP;
 use case_words::next_number;
@@ -10,7 +11,7 @@ use case_words::plane;
 use case_words::size_at;
 use corkplover::frames;
 use frame::FrameAnswer;
-use frame::Size;
+use paint::Size;
 use request::form;
 use setting::Setting;
 use setting::Way;

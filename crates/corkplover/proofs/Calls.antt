@@ -6,9 +6,10 @@ use denote.Ref.{now}
 use lib.ListN.{length}
 use Rattle.setting.specs.declared.Way.the-variants.{Forward, Reverse}
 use Rattle.planes.specs.Picture.{picture}
-use Rattle.frame.specs.Frame.{inputPicture, outputLayout, FrameAfter}
+use Rattle.paint.specs.Paint.{inputPicture, outputPicture, outputLayout}
+use Rattle.frame.specs.Frame.{FrameAfter}
 use Rattle.image_check.specs.Image.{imageAnswer}
-use Rattle.judge.specs.Judge.{claimedPicture, judgement}
+use Rattle.judge.specs.Judge.{judgement}
 use Rattle.corkplover.specs.Answers.{labelAnswer, pixelAnswer, sourceAnswer, reading, levelsAnswer}
 use Rattle.corkplover.proofs.labels.label.Reads as label
 use Rattle.corkplover.proofs.pixels.forward_pixel.Reads as forward-pixel
@@ -45,11 +46,11 @@ pub image-check-answers : (κs s width height stride y cb cr r t : _) → image-
 image-check-answers κs s width height stride y cb cr r t h = h
 
 pub judge-forward-answers : (κs s size r g b y cb cr x t : _) → judge-forward.Post κs (s, (size, (r, (g, (b, (y, (cb, (cr, tt)))))))) x t
-    → x ≡ judgement Forward s (inputPicture size (now r) (now g) (now b)) (claimedPicture size (now y) (now cb) (now cr))
+    → x ≡ judgement Forward s (inputPicture size (now r) (now g) (now b)) (outputPicture size (now y) (now cb) (now cr))
 judge-forward-answers κs s size r g b y cb cr x t h = h
 
 pub judge-reverse-answers : (κs s size y cb cr r g b x t : _) → judge-reverse.Post κs (s, (size, (y, (cb, (cr, (r, (g, (b, tt)))))))) x t
-    → x ≡ judgement Reverse s (inputPicture size (now y) (now cb) (now cr)) (claimedPicture size (now r) (now g) (now b))
+    → x ≡ judgement Reverse s (inputPicture size (now y) (now cb) (now cr)) (outputPicture size (now r) (now g) (now b))
 judge-reverse-answers κs s size y cb cr r g b x t h = h
 
 -- a frame call says what it leaves in its three output planes too

@@ -10,11 +10,11 @@ use Rattle.setting.specs.declared.Way.{Way}
 use Rattle.meter.specs.declared.PixelLevels.{PixelLevels}
 use Rattle.meter.specs.declared.SampleKind.{SampleKind}
 use Rattle.planes.specs.Picture.{Picture}
+use Rattle.paint.specs.Paint.{inputPicture, outputPicture}
+use Rattle.paint.specs.declared.Size.{Size}
 use Rattle.image_check.specs.Image.{imageAnswer}
 use Rattle.image_check.specs.declared.ImageAnswer.{ImageAnswer}
-use Rattle.frame.specs.Frame.{inputPicture}
-use Rattle.frame.specs.declared.Size.{Size}
-use Rattle.judge.specs.Judge.{claimedPicture, judgement}
+use Rattle.judge.specs.Judge.{judgement}
 use Rattle.judge.specs.declared.Judgement.{Judgement}
 use Rattle.corkplover.specs.After.{ReadingAfter, LevelsAfter, JudgementAfter}
 use Rattle.corkplover.specs.Answers.{pixelAnswer, reading, levelsAnswer}
@@ -43,9 +43,9 @@ pub image-exported : (a : Picture) {s t : Setting} {r : ImageAnswer} {x : ℕ} �
 image-exported a e f g = g ∙ ap packedImage (f ∙ ap (λ z. imageAnswer z a) e)
 
 pub judgement-exported : (w : Way) (a0 a1 a2 b0 b1 b2 : List ℕ) {s t : Setting} {z u : Size} {r : Judgement} {n x : ℕ} → s ≡ t → z ≡ u
-    → r ≡ judgement w s (inputPicture z a0 a1 a2) (claimedPicture z b0 b1 b2) → n ≡ wrongIn r → x ≡ packedJudgement r
+    → r ≡ judgement w s (inputPicture z a0 a1 a2) (outputPicture z b0 b1 b2) → n ≡ wrongIn r → x ≡ packedJudgement r
     → JudgementAfter w t u a0 a1 a2 b0 b1 b2 x n
 judgement-exported w a0 a1 a2 b0 b1 b2 {s} {t} {z} {u} {r} e f g h k =
-    let answers : r ≡ judgement w t (inputPicture u a0 a1 a2) (claimedPicture u b0 b1 b2) =
-    g ∙ (λ i. judgement w (e i) (inputPicture (f i) a0 a1 a2) (claimedPicture (f i) b0 b1 b2)) in
+    let answers : r ≡ judgement w t (inputPicture u a0 a1 a2) (outputPicture u b0 b1 b2) =
+    g ∙ (λ i. judgement w (e i) (inputPicture (f i) a0 a1 a2) (outputPicture (f i) b0 b1 b2)) in
     (k ∙ ap packedJudgement answers, h ∙ ap wrongIn answers)

@@ -5,8 +5,9 @@ use Prim.Native.Nat.{ℕ}
 use lib.ListN.{length}
 use Rattle.setting.specs.declared.Setting.{Setting}
 use Rattle.setting.specs.declared.Way.{Way}
-use Rattle.frame.specs.Frame.{inputPicture, outputLayout, frameAnswer, outPlane}
-use Rattle.frame.specs.declared.Size.{Size}
+use Rattle.paint.specs.Paint.{inputPicture, outputLayout}
+use Rattle.paint.specs.declared.Size.{Size}
+use Rattle.frame.specs.Frame.{frameAnswer, outPlane}
 use Rattle.frame.specs.declared.FrameAnswer.{FrameAnswer}
 use Rattle.corkplover.specs.Packing.{packedFrame}
 

@@ -8,9 +8,10 @@ use Rattle.sample.specs.declared.Pixel.{Pixel}
 use Rattle.setting.specs.declared.Setting.{Setting}
 use Rattle.meter.specs.declared.SampleKind.{SampleKind}
 use Rattle.setting.specs.declared.Way.{Way}
-use Rattle.frame.specs.Frame.{inputPicture, outputLayout, frameAnswer, PlanesAfter}
-use Rattle.frame.specs.declared.Size.{Size}
-use Rattle.judge.specs.Judge.{claimedPicture, judgement}
+use Rattle.paint.specs.Paint.{inputPicture, outputPicture, outputLayout}
+use Rattle.paint.specs.declared.Size.{Size}
+use Rattle.frame.specs.Frame.{frameAnswer, PlanesAfter}
+use Rattle.judge.specs.Judge.{judgement}
 use Rattle.corkplover.specs.Answers.{reading, levelsAnswer}
 use Rattle.corkplover.specs.Packing.{packedReading, levelIn, packedLevels, yIn, cbIn, crIn, packedFrame, packedJudgement, wrongIn}
 
@@ -32,5 +33,5 @@ FrameExportAfter way s size a0 a1 a2 b0 b1 b2 x p0 p1 p2 =
 -- a judgement of the planes b, with the planes a as their source, and its count
 abbrev pub JudgementAfter : Way → Setting → Size → List ℕ → List ℕ → List ℕ → List ℕ → List ℕ → List ℕ → ℕ → ℕ → Type 0
 JudgementAfter way s size a0 a1 a2 b0 b1 b2 x wrong =
-    let told = judgement way s (inputPicture size a0 a1 a2) (claimedPicture size b0 b1 b2) in
+    let told = judgement way s (inputPicture size a0 a1 a2) (outputPicture size b0 b1 b2) in
     (x ≡ packedJudgement told) × (wrong ≡ wrongIn told)

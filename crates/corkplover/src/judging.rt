@@ -2,10 +2,10 @@
 // read. A size's output stride is the claimed planes'.
 ghost use mathlib.Core.Path.{_≡_};
 ghost use Rattle.setting.specs.declared.Way.the-variants.{Forward, Reverse};
-ghost use Rattle.frame.specs.Frame.{inputPicture};
-ghost use Rattle.judge.specs.Judge.{claimedPicture, judgement};
-use frame::Size;
+ghost use Rattle.paint.specs.Paint.{inputPicture, outputPicture};
+ghost use Rattle.judge.specs.Judge.{judgement};
 use judge::Judgement;
+use paint::Size;
 use setting::Setting;
 use setting::Way;
 
@@ -21,7 +21,7 @@ pub fn judge_forward(
     cr: &[u16],
 ) -> Judgement
     ensures { λ x. ⌜ x ≡ judgement Forward s (inputPicture size (now (r .entry)) (now (g .entry)) (now (b .entry)))
-        (claimedPicture size (now (y .entry)) (now (cb .entry)) (now (cr .entry))) ⌝ }
+        (outputPicture size (now (y .entry)) (now (cb .entry)) (now (cr .entry))) ⌝ }
 {
     judge::judge_frame(Way::Forward, s, size, r, g, b, y, cb, cr)
 }
@@ -38,7 +38,7 @@ pub fn judge_reverse(
     b: &[u16],
 ) -> Judgement
     ensures { λ x. ⌜ x ≡ judgement Reverse s (inputPicture size (now (y .entry)) (now (cb .entry)) (now (cr .entry)))
-        (claimedPicture size (now (r .entry)) (now (g .entry)) (now (b .entry))) ⌝ }
+        (outputPicture size (now (r .entry)) (now (g .entry)) (now (b .entry))) ⌝ }
 {
     judge::judge_frame(Way::Reverse, s, size, y, cb, cr, r, g, b)
 }

@@ -1,4 +1,3 @@
 -- Laws of frames.
 pub mod PaintLaws
 pub mod FrameLaws
-pub mod FineLaws

@@ -5,7 +5,7 @@ use mathlib.Core.List.{List}
 use Prim.Native.Nat.{ℕ, _+_, _*_, _/_, _%_, _<_, _≤_}
 use native.Mathlib.Nat.{zero-add}
 use native.Mathlib.Omega.{arith}
-use borrow.Author.Count.{below-none, below-more}
+use borrow.Author.Count.{below-more}
 use lib.ListN.{length}
 use Rattle.sample.specs.declared.Pixel.{Pixel}
 use Rattle.planes.specs.Picture.{Picture, picture, layoutOf, pixelOf, sampleOf, EveryPixel}
@@ -15,24 +15,11 @@ use Rattle.planes.specs.declared.size.Layout.{Layout}
 use Rattle.planes.proofs.Painted.{Progress, progress-none, progress-more, Painted, painted-none, painted-more, painted-whole, painted-end}
 use Rattle.planes.proofs.SizeLaws.{index-inside, needed-whole}
 use Rattle.planes.proofs.Tables.{part-width}
-use Rattle.convert.specs.Row.{rowPart, EveryOf, OneWidth}
+use Rattle.convert.specs.Row.{rowPart, EveryOf}
 use Rattle.convert.proofs.RunLaws.{Run, row-run, whole-run, run-pixel, pixel-of-part, run-of-every}
-use Rattle.frame.specs.Frame.{mappedSample, mappedPlane, lengthOf, MappedPlanes, mappedPart, RowsPut}
-
--- six parts of one width
-pub parts-one-width : (a0 a1 a2 b0 b1 b2 : List ℕ) (from to width : ℕ)
-    → Long (from + width) (length a0) (length a1) (length a2) → Long (to + width) (length b0) (length b1) (length b2)
-    → OneWidth (rowPart a0 from width) (rowPart a1 from width) (rowPart a2 from width) (rowPart b0 to width) (rowPart b1 to width) (rowPart b2 to width)
-parts-one-width a0 a1 a2 b0 b1 b2 from to width h k =
-    omega (
-      arith,
-      part-width a0 from width (h .long0),
-      part-width a1 from width (h .long1),
-      part-width a2 from width (h .long2),
-      part-width b0 to width (k .long0),
-      part-width b1 to width (k .long1),
-      part-width b2 to width (k .long2),
-    )
+use Rattle.paint.specs.Paint.{mappedPart, RowsPut}
+use Rattle.paint.proofs.RowLaws.{Seen}
+use Rattle.frame.specs.Frame.{mappedSample, mappedPlane, lengthOf, MappedPlanes}
 
 -- the first j rows of plane k are painted, as f makes them
 abbrev RowsPainted : (Pixel → Pixel) → Picture → Layout → ℕ → List ℕ → ℕ → ℕ → Type 0
@@ -60,16 +47,6 @@ painting-none h =
 -- three planes y are zeroed from `done` on, each up to its own end, and are then the planes z
 abbrev pub Zeroed : ℕ → ℕ → ℕ → ℕ → (y0 y1 y2 z0 z1 z2 : List ℕ) → Type 0
 Zeroed done e0 e1 e2 y0 y1 y2 z0 z1 z2 = (z0 ≡ cleared y0 done e0) × ((z1 ≡ cleared y1 done e1) × (z2 ≡ cleared y2 done e2))
-
--- the first j rows of a picture have a fact at every pixel
-pub record Seen (fact : Pixel → Type 0) (a : Picture) (j : ℕ) : Type 0 where
-  pub each : (k : ℕ) → k < j → (i : ℕ) → i < a .width → fact (pixelOf a k i)
-
-pub seen-none : (fact : Pixel → Type 0) (a : Picture) → Seen fact a 0
-seen-none fact a = record { each = below-none _ }
-
-pub seen-all : {fact : Pixel → Type 0} {a : Picture} {j : ℕ} → Seen fact a j → a .height ≤ j → EveryPixel fact a
-seen-all s h k i l m = s .each k (omega arith) i m
 
 -- A turn at row j, which starts at `from` in the planes that are read and at `to` in those that are written.
 pub record Turn (f : Pixel → Pixel) (a : Picture) (b : Layout) (y0 y1 y2 : List ℕ) (j done from to : ℕ) : Type 0 where

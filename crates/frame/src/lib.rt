@@ -1,12 +1,14 @@
 // Whole frames: the refusals first, and then either every row or zeros everywhere.
-pub mod paint;
+mod picture;
 
 ghost use mathlib.Core.Path.{_≡_};
 ghost use lib.ListN.{length};
 ghost use Rattle.planes.specs.Picture.{layoutOf};
 ghost use Rattle.planes.specs.Sizes.{Fits};
 ghost use Rattle.setting.specs.Ready.{Ready};
-ghost use Rattle.frame.specs.Frame.{inputPicture, outputLayout, frameBy, FrameAfter, ConvertedIf};
+ghost use Rattle.paint.specs.Paint.{inputPicture, outputLayout};
+ghost use Rattle.frame.specs.Frame.{frameBy, FrameAfter, ConvertedIf};
+use paint::Size;
 use planes::size::Layout;
 use refusal::Refusal;
 use setting::Call;
@@ -14,14 +16,6 @@ use setting::Setting;
 use setting::Way;
 use setting::admission::Admission;
 use setting::admission::Served;
-
-// The sizes of a picture, and the strides of the planes that are read and of those that are written.
-pub struct Size {
-    pub width: usize,
-    pub height: usize,
-    pub input_stride: usize,
-    pub output_stride: usize,
-}
 
 pub enum FrameAnswer {
     Done,
@@ -60,7 +54,7 @@ fn painted(
     let depths = served.depths;
     let tops = depths.tops(setting::reads(Call::Convert(way)));
     let plan = row_plan::plan_rows(way, served);
-    paint::paint(plan, tops, size, a0, a1, a2, b0, b1, b2)
+    picture::paint(plan, tops, size, a0, a1, a2, b0, b1, b2)
 }
 
 // A frame, converted. Whatever is answered, every element of the three output planes is set: to zero by a refusal.

@@ -20,10 +20,10 @@ use Rattle.row_plan.specs.RowPlan.{rowPlanned, RowPlans}
 use Rattle.row_plan.specs.declared.RowPlan.{RowPlan}
 use Rattle.scan.proofs.Searches.{first-place-same}
 use Rattle.compare.specs.Compare.{differ}
-use Rattle.admit.specs.Rules.{sizedAdmission}
+use Rattle.admit.specs.Rules.{sizedAdmission, frameAdmission}
 use Rattle.admit.proofs.AdmitLaws.{still-refused}
-use Rattle.frame.specs.Frame.{frameAdmission}
-use Rattle.frame.proofs.FrameLaws.{FrameSized, let-in, tells-inside}
+use Rattle.admit.proofs.LetIn.{FrameSized, let-in}
+use Rattle.paint.proofs.TopLaws.{tells-inside}
 use Rattle.judge.specs.Judge.{isWrong, firstWrong, countWrong, verdict, judgeBy, judgement, PictureTold, JudgedIf}
 use Rattle.judge.specs.declared.Judgement.the-variants.{Refused}
 use Rattle.judge.specs.declared.picture.Told.{Told}

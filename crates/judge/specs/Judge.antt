@@ -14,7 +14,7 @@ use Rattle.setting.specs.declared.Way.{Way}
 use Rattle.setting.specs.declared.admission.Admission.{Admission}
 use Rattle.setting.specs.declared.admission.Admission.the-variants as admission
 use Rattle.setting.specs.declared.admission.Served.{Served}
-use Rattle.planes.specs.Picture.{Picture, picture, layoutOf, pixelOf, EveryPixel}
+use Rattle.planes.specs.Picture.{Picture, layoutOf, pixelOf, EveryPixel}
 use Rattle.planes.specs.Sizes.{mostSize}
 use Rattle.scan.specs.First.{orFound, firstPlace, NotAbove, RunsFine, Tells}
 use Rattle.scan.specs.declared.Found.{Found}
@@ -24,8 +24,7 @@ use Rattle.convert.specs.Row.{pixelIn}
 use Rattle.compare.specs.Count.{countPlaces}
 use Rattle.compare.specs.Compare.{differ, Compared}
 use Rattle.compare.specs.declared.Tally.{Tally}
-use Rattle.frame.specs.Frame.{frameAdmission}
-use Rattle.frame.specs.declared.Size.{Size}
+use Rattle.admit.specs.Rules.{frameAdmission}
 use Rattle.judge.specs.declared.Judgement.{Judgement}
 use Rattle.judge.specs.declared.Judgement.the-variants.{Agrees, Differs, Refused}
 use Rattle.judge.specs.declared.picture.Told.{Told}
@@ -53,10 +52,6 @@ judgeBy (admission.Refused r) way a b = Refused r
 -- THE judgement of a claimed picture b, with a as its source
 unfoldable pub judgement : Way → Setting → Picture → Picture → Judgement
 judgement way s a b = judgeBy (frameAdmission way s a (layoutOf b)) way a b
-
--- the picture that is claimed
-abbrev pub claimedPicture : Size → List ℕ → List ℕ → List ℕ → Picture
-claimedPicture z p0 p1 p2 = picture (z .width) (z .height) (z .«output_stride») p0 p1 p2
 
 -- whether the pixel at index k of two runs is wrong: they lie from index `from` of the source's planes and from index `to` of the claimed
 abbrev pub runWrong : (Pixel → Pixel) → ℕ → ℕ → (a0 a1 a2 b0 b1 b2 : List ℕ) → ℕ → Bool

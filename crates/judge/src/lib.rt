@@ -6,10 +6,10 @@ ghost use mathlib.Core.Path.{_≡_};
 ghost use Rattle.planes.specs.Picture.{layoutOf};
 ghost use Rattle.planes.specs.Sizes.{Fits};
 ghost use Rattle.setting.specs.Ready.{Ready};
-ghost use Rattle.frame.specs.Frame.{inputPicture};
-ghost use Rattle.judge.specs.Judge.{claimedPicture, verdict, judgement, JudgedIf};
+ghost use Rattle.paint.specs.Paint.{inputPicture, outputPicture};
+ghost use Rattle.judge.specs.Judge.{verdict, judgement, JudgedIf};
 use crate::picture::Told;
-use frame::Size;
+use paint::Size;
 use planes::size::Layout;
 use refusal::Place;
 use refusal::Refusal;
@@ -51,9 +51,9 @@ fn judged(
 ) -> Told
     requires { ⌜ Ready served ⌝ }
     requires { ⌜ Fits (size .width) (size .height) (layoutOf (inputPicture size (now a0) (now a1) (now a2))) ⌝ }
-    requires { ⌜ Fits (size .width) (size .height) (layoutOf (claimedPicture size (now b0) (now b1) (now b2))) ⌝ }
+    requires { ⌜ Fits (size .width) (size .height) (layoutOf (outputPicture size (now b0) (now b1) (now b2))) ⌝ }
     ensures { λ r. ⌜ JudgedIf r way served (inputPicture size (now (a0 .entry)) (now (a1 .entry)) (now (a2 .entry)))
-        (claimedPicture size (now (b0 .entry)) (now (b1 .entry)) (now (b2 .entry))) ⌝ }
+        (outputPicture size (now (b0 .entry)) (now (b1 .entry)) (now (b2 .entry))) ⌝ }
 {
     let depths = served.depths;
     let tops = depths.tops(setting::reads(Call::Convert(way)));
@@ -74,7 +74,7 @@ pub fn judge_frame(
     b2: &[u16],
 ) -> Judgement
     ensures { λ r. ⌜ r ≡ judgement way s (inputPicture size (now (a0 .entry)) (now (a1 .entry)) (now (a2 .entry)))
-        (claimedPicture size (now (b0 .entry)) (now (b1 .entry)) (now (b2 .entry))) ⌝ }
+        (outputPicture size (now (b0 .entry)) (now (b1 .entry)) (now (b2 .entry))) ⌝ }
 {
     let width = size.width;
     let height = size.height;

@@ -4,10 +4,10 @@ ghost use Prim.Native.Nat.{_*_, _<_, _≤_};
 ghost use Rattle.planes.specs.Picture.{picture, layoutOf};
 ghost use Rattle.planes.specs.Sizes.{Fits, mostSize};
 ghost use Rattle.row_plan.specs.RowPlan.{rowPlanned, RowRoomy};
-ghost use Rattle.frame.specs.Frame.{inputPicture, TakesUpTo};
-ghost use Rattle.judge.specs.Judge.{claimedPicture, orRow, foundIn, PictureTold};
+ghost use Rattle.paint.specs.Paint.{inputPicture, outputPicture, TakesUpTo};
+ghost use Rattle.judge.specs.Judge.{orRow, foundIn, PictureTold};
 use crate::run::tally_run;
-use frame::Size;
+use paint::Size;
 use planes::size::row_start;
 use refusal::Place;
 use row_plan::RowPlan;
@@ -57,9 +57,9 @@ fn tell_rows(
     requires { ⌜ RowRoomy plan ⌝ }
     requires { ⌜ TakesUpTo tops plan ⌝ }
     requires { ⌜ Fits (size .width) (size .height) (layoutOf (inputPicture size (now a0) (now a1) (now a2))) ⌝ }
-    requires { ⌜ Fits (size .width) (size .height) (layoutOf (claimedPicture size (now b0) (now b1) (now b2))) ⌝ }
+    requires { ⌜ Fits (size .width) (size .height) (layoutOf (outputPicture size (now b0) (now b1) (now b2))) ⌝ }
     ensures { λ r. ⌜ PictureTold r tops (rowPlanned plan) (inputPicture size (now (a0 .entry)) (now (a1 .entry)) (now (a2 .entry)))
-        (claimedPicture size (now (b0 .entry)) (now (b1 .entry)) (now (b2 .entry))) ⌝ }
+        (outputPicture size (now (b0 .entry)) (now (b1 .entry)) (now (b2 .entry))) ⌝ }
 {
     let width = size.width;
     let height = size.height;
@@ -150,9 +150,9 @@ pub fn tell(
     requires { ⌜ RowRoomy plan ⌝ }
     requires { ⌜ TakesUpTo tops plan ⌝ }
     requires { ⌜ Fits (size .width) (size .height) (layoutOf (inputPicture size (now a0) (now a1) (now a2))) ⌝ }
-    requires { ⌜ Fits (size .width) (size .height) (layoutOf (claimedPicture size (now b0) (now b1) (now b2))) ⌝ }
+    requires { ⌜ Fits (size .width) (size .height) (layoutOf (outputPicture size (now b0) (now b1) (now b2))) ⌝ }
     ensures { λ r. ⌜ PictureTold r tops (rowPlanned plan) (inputPicture size (now (a0 .entry)) (now (a1 .entry)) (now (a2 .entry)))
-        (claimedPicture size (now (b0 .entry)) (now (b1 .entry)) (now (b2 .entry))) ⌝ }
+        (outputPicture size (now (b0 .entry)) (now (b1 .entry)) (now (b2 .entry))) ⌝ }
 {
     let width = size.width;
     let height = size.height;

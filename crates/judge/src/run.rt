@@ -5,12 +5,12 @@ ghost use Prim.Native.Nat.{_+_, _≤_, min};
 ghost use lib.ListN.{length};
 ghost use Rattle.planes.specs.Sizes.{Long};
 ghost use Rattle.row_plan.specs.RowPlan.{rowPlanned, RowRoomy};
-ghost use Rattle.frame.specs.Frame.{TakesUpTo};
 ghost use Rattle.compare.specs.Compare.{mostPart};
+ghost use Rattle.paint.specs.Paint.{TakesUpTo};
 ghost use Rattle.judge.specs.Judge.{mostRun, PartTold, RunTold};
 use compare::Tally;
 use compare::compare_part;
-use frame::paint::paint_row;
+use paint::paint_row;
 use row_plan::RowPlan;
 use sample::Pixel;
 

@@ -22,10 +22,10 @@ use Rattle.plan.specs.Conversion.{convert}
 use Rattle.plan.proofs.ConversionTheorems.{trip, one-to-one, forward-inside}
 use Rattle.admit.specs.Rules.{pictureRules}
 use Rattle.admit.proofs.Accepted.{PictureAccepted, all-fit, pixels-inside, inside-exactly}
-use Rattle.frame.specs.Frame.{inputPicture, outputLayout}
-use Rattle.frame.specs.declared.Size.{Size}
+use Rattle.paint.specs.Paint.{inputPicture, outputPicture, outputLayout}
+use Rattle.paint.specs.declared.Size.{Size}
 use Rattle.corkplover.specs.Meaning.{Meaning}
-use Rattle.promises.specs.Frames.{ConvertsFrame, ConvertsPlanes, leftIn, HandedOn, SamePixels}
+use Rattle.promises.specs.Frames.{ConvertsFrame, ConvertsPlanes, HandedOn, SamePixels}
 use Rattle.promises.specs.Lossless.{Listed}
 use Rattle.promises.proofs.Frames.{frame-accepted}
 use Rattle.promises.proofs.Lossless.{converts-too, taken}
@@ -108,10 +108,10 @@ module _ (s : Setting) (l : Listed s) where
   pub frame-comes-back : (z z' : Size) (a0 a1 a2 b0 b1 b2 c0 c1 c2 : List ℕ) {p0 p1 p2 q0 q1 q2 e0 e1 e2 : List ℕ} {m n : Meaning}
       → ConvertsPlanes Forward s z a0 a1 a2 b0 b1 b2 m p0 p1 p2 → m .number ≡ 0 → HandedOn z z' p0 p1 p2 q0 q1 q2
       → Fits (z .width) (z .height) (outputLayout z' (length c0) (length c1) (length c2)) → ConvertsPlanes Reverse s z' q0 q1 q2 c0 c1 c2 n e0 e1 e2
-      → (n .number ≡ 0) × SamePixels (inputPicture z a0 a1 a2) (leftIn z' e0 e1 e2)
+      → (n .number ≡ 0) × SamePixels (inputPicture z a0 a1 a2) (outputPicture z' e0 e1 e2)
   frame-comes-back z z' a0 a1 a2 b0 b1 b2 c0 c1 c2 {p0} {p1} {p2} {e0 = e0} {e1 = e1} {e2 = e2} {n = n} f e h fit g =
       let d = outputLayout z' (length c0) (length c1) (length c2) in
-      let sent : inputPicture z' _ _ _ ≡ leftIn z p0 p1 p2 =
+      let sent : inputPicture z' _ _ _ ≡ outputPicture z p0 p1 p2 =
       λ i. picture (h .width-is i) (h .height-is i) (h .stride-is i) (h .plane0-is i) (h .plane1-is i) (h .plane2-is i) in
       comes-back (inputPicture z a0 a1 a2) (outputLayout z (length b0) (length b1) (length b2)) d p0 p1 p2 f e fit
-      (subst (λ q. ConvertsFrame Reverse s q d n (leftIn z' e0 e1 e2)) sent g)
+      (subst (λ q. ConvertsFrame Reverse s q d n (outputPicture z' e0 e1 e2)) sent g)

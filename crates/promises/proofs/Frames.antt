@@ -19,9 +19,9 @@ use Rattle.setting.specs.declared.Way.{Way}
 use Rattle.setting.specs.declared.admission.Admission.{Admission}
 use Rattle.setting.specs.declared.admission.Admission.the-variants as admission
 use Rattle.plan.specs.Conversion.{convert}
-use Rattle.admit.specs.Rules.{pictureRules}
+use Rattle.admit.specs.Rules.{pictureRules, frameAdmission}
 use Rattle.admit.proofs.Accepted.{PictureAccepted, all-fit}
-use Rattle.frame.specs.Frame.{frameAdmission, frameAnswer, convertedPlane, planeBy, lengthOf, outPlane, PlanesAfter}
+use Rattle.frame.specs.Frame.{frameAnswer, convertedPlane, planeBy, lengthOf, outPlane, PlanesAfter}
 use Rattle.frame.proofs.FrameLaws.{plane-done, plane-refused}
 use Rattle.corkplover.specs.Meaning.{Meaning, meaningOfFrame}
 use Rattle.promises.specs.Frames.{ConvertsFrame, Outside}

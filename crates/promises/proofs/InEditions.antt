@@ -9,7 +9,8 @@ use Rattle.setting.specs.declared.Way.{Way}
 use Rattle.setting.specs.declared.Way.the-variants.{Forward, Reverse}
 use Rattle.planes.specs.Picture.{Picture, picture}
 use Rattle.planes.specs.declared.size.Layout.{Layout}
-use Rattle.frame.specs.Frame.{inputPicture, outputLayout, FrameAfter}
+use Rattle.paint.specs.Paint.{inputPicture, outputLayout}
+use Rattle.frame.specs.Frame.{FrameAfter}
 use Rattle.frame.specs.declared.FrameAnswer.{FrameAnswer}
 use Rattle.corkplover.specs.Meaning.{meaningOfPixel, meaningOfSource, meaningOfReading, meaningOfLevels, meaningOfFrame, meaningOfImage, meaningOfJudgement}
 use Rattle.corkplover.proofs.Calls.{forward-pixel-answers, reverse-pixel-answers, source-pixel-answers, meter-sample-answers, meter-pixel-answers, image-check-answers, forward-frame-answers, reverse-frame-answers, judge-forward-answers, judge-reverse-answers}

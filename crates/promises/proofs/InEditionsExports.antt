@@ -13,10 +13,9 @@ use Rattle.setting.specs.declared.Way.the-variants.{Forward, Reverse}
 use Rattle.meter.specs.declared.SampleKind.{SampleKind}
 use Rattle.meter.specs.declared.SampleKind.the-variants.{Y, Cb, Cr}
 use Rattle.planes.specs.Picture.{picture}
-use Rattle.frame.specs.Frame.{inputPicture, outputLayout}
-use Rattle.frame.specs.declared.Size.{Size}
+use Rattle.paint.specs.Paint.{inputPicture, outputPicture, outputLayout}
+use Rattle.paint.specs.declared.Size.{Size}
 use Rattle.image_check.specs.Image.{imageAnswer}
-use Rattle.judge.specs.Judge.{claimedPicture}
 use Rattle.corkplover.specs.After.{ReadingAfter, LevelsAfter, FrameExportAfter, JudgementAfter}
 use Rattle.corkplover.specs.Answers.{pixelAnswer}
 use Rattle.corkplover.specs.Meaning.{meaningInPixel, meaningInReading, meaningInLevels, meaningInFrame, meaningInImage, meaningInJudgement}
@@ -87,7 +86,7 @@ module _ (s t : Setting) (n : ℕ) (other : t ≡ inEdition n s) where
       → JudgementAfter w t z a0 a1 a2 b0 b1 b2 x' k' → SameOrRefused (meaningInJudgement x k) (meaningInJudgement x' k')
   judgements-in w z a0 a1 a2 b0 b1 b2 h h' =
       let a = inputPicture z a0 a1 a2 in
-      let b = claimedPicture z b0 b1 b2 in
+      let b = outputPicture z b0 b1 b2 in
       rw (
         (λ i. meaningInJudgement (h .0 i) (h .1 i)) ∙ judgement-unpacked w s a b,
         (λ i. meaningInJudgement (h' .0 i) (h' .1 i)) ∙ judgement-unpacked w t a b,

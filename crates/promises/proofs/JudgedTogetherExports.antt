@@ -6,9 +6,9 @@ use Prim.Native.Nat.{ℕ}
 use Rattle.setting.specs.declared.Setting.{Setting}
 use Rattle.setting.specs.declared.Way.{Way}
 use Rattle.setting.specs.declared.Way.the-variants.{Forward, Reverse}
-use Rattle.frame.specs.Frame.{inputPicture}
-use Rattle.frame.specs.declared.Size.{Size}
-use Rattle.judge.specs.Judge.{claimedPicture, judgement}
+use Rattle.paint.specs.Paint.{inputPicture, outputPicture}
+use Rattle.paint.specs.declared.Size.{Size}
+use Rattle.judge.specs.Judge.{judgement}
 use Rattle.corkplover.specs.After.{JudgementAfter}
 use Rattle.corkplover.specs.Meaning.{meaningInFrame, meaningInJudgement}
 use Rattle.corkplover.specs.Packing.{settingIn, sizes, packedJudgement, wrongIn}
@@ -30,7 +30,7 @@ no-padding : (w : Way) (s t : Setting) (z : Size) (a0 a1 a2 b0 b1 b2 q0 q1 q2 p0
     → Alike (z .width) (z .height) (z .«output_stride») b0 b1 b2 p0 p1 p2 → (x ≡ x') × (n ≡ n')
 no-padding w s t z a0 a1 a2 b0 b1 b2 q0 q1 q2 p0 p1 p2 h h' e alike alike' =
     let same =
-    ap (λ u. judgement w u (inputPicture z a0 a1 a2) (claimedPicture z b0 b1 b2)) e
+    ap (λ u. judgement w u (inputPicture z a0 a1 a2) (outputPicture z b0 b1 b2)) e
     ∙ same-judgement (z .width) (z .height) (z .«input_stride») (z .«output_stride») a0 a1 a2 q0 q1 q2 b0 b1 b2 p0 p1 p2 alike alike' w t in
     once-both (h .0 ∙ ap packedJudgement same, h .1 ∙ ap wrongIn same) h'
 

@@ -27,12 +27,12 @@ use Rattle.plan.proofs.ConversionTheorems.{same-pixel, pixel-same}
 use Rattle.compare.specs.Count.{countPlaces}
 use Rattle.compare.specs.Compare.{differ}
 use Rattle.admit.specs.Rules.{pictureRules}
-use Rattle.frame.specs.Frame.{inputPicture, outputLayout}
-use Rattle.frame.specs.declared.Size.{Size}
+use Rattle.paint.specs.Paint.{inputPicture, outputPicture, outputLayout}
+use Rattle.paint.specs.declared.Size.{Size}
 use Rattle.judge.specs.Judge.{isWrong, firstWrong, countWrong, verdict, judgeBy, judgement}
 use Rattle.judge.proofs.PlaceLaws.{none-wrong, wrong-none, places-same}
 use Rattle.corkplover.specs.Meaning.{Meaning, meaningOfJudgement}
-use Rattle.promises.specs.Frames.{ConvertsFrame, ConvertsPlanes, leftIn, SamePixels}
+use Rattle.promises.specs.Frames.{ConvertsFrame, ConvertsPlanes, SamePixels}
 use Rattle.promises.specs.Judging.{ownPicture, Right, wrongAt, FirstWrong, JudgesFrame, JudgesPlanes, OwnAgrees}
 use Rattle.promises.proofs.Refusing.{none-admitted, judgement-refuses}
 use Rattle.promises.proofs.Frames.{frame-converts}
@@ -166,7 +166,7 @@ module _ (w : Way) (s : Setting) (a c : Picture) (b : Layout) (same : layoutOf c
 pub own-planes-agree : (w : Way) (s : Setting) (z : Size) (a0 a1 a2 b0 b1 b2 : List ℕ) {p0 p1 p2 c0 c1 c2 : List ℕ} {m m' : Meaning}
     → ConvertsPlanes w s z a0 a1 a2 b0 b1 b2 m p0 p1 p2 → c0 ≡ p0 → c1 ≡ p1 → c2 ≡ p2 → JudgesPlanes w s z a0 a1 a2 c0 c1 c2 m' → OwnAgrees m m'
 own-planes-agree w s z a0 a1 a2 b0 b1 b2 {p0} {p1} {p2} {m' = m'} f e0 e1 e2 g =
-    let same : layoutOf (leftIn z p0 p1 p2) ≡ outputLayout z (length b0) (length b1) (length b2) =
+    let same : layoutOf (outputPicture z p0 p1 p2) ≡ outputLayout z (length b0) (length b1) (length b2) =
     λ i. layout (z .«output_stride») (f .long 0 (omega arith) i) (f .long 1 (omega arith) i) (f .long 2 (omega arith) i) in
-    own-agrees w s (inputPicture z a0 a1 a2) (leftIn z p0 p1 p2) (outputLayout z (length b0) (length b1) (length b2)) same f
-    (subst (λ c. JudgesFrame w s (inputPicture z a0 a1 a2) c m') (λ i. leftIn z (e0 i) (e1 i) (e2 i)) g)
+    own-agrees w s (inputPicture z a0 a1 a2) (outputPicture z p0 p1 p2) (outputLayout z (length b0) (length b1) (length b2)) same f
+    (subst (λ c. JudgesFrame w s (inputPicture z a0 a1 a2) c m') (λ i. outputPicture z (e0 i) (e1 i) (e2 i)) g)

@@ -12,9 +12,9 @@ use Rattle.setting.specs.declared.Way.the-variants.{Forward, Reverse}
 use Rattle.meter.specs.declared.SampleKind.{SampleKind}
 use Rattle.meter.specs.declared.SampleKind.the-variants.{Y, Cb, Cr}
 use Rattle.planes.specs.Picture.{picture}
-use Rattle.frame.specs.Frame.{inputPicture}
-use Rattle.judge.specs.Judge.{claimedPicture, judgement}
-use Rattle.frame.specs.declared.Size.{Size}
+use Rattle.paint.specs.Paint.{inputPicture, outputPicture}
+use Rattle.paint.specs.declared.Size.{Size}
+use Rattle.judge.specs.Judge.{judgement}
 use Rattle.corkplover.specs.After.{ReadingAfter, JudgementAfter}
 use Rattle.corkplover.specs.Answers.{pixelAnswer}
 use Rattle.corkplover.specs.Meaning.{meaningInPixel, meaningInReading, meaningInLevels, meaningInFrame, meaningInImage, meaningInJudgement}
@@ -58,7 +58,7 @@ judgement-by : (w : Way) (s : Setting) (z : Size) (a0 a1 a2 b0 b1 b2 : List ℕ)
     → let m = meaningInJudgement x n in JudgesPlanes w s z a0 a1 a2 b0 b1 b2 m × (n ≡ m .wrong)
 judgement-by w s z a0 a1 a2 b0 b1 b2 x n e =
     let a = inputPicture z a0 a1 a2 in
-    let b = claimedPicture z b0 b1 b2 in
+    let b = outputPicture z b0 b1 b2 in
     let means = (λ i. meaningInJudgement (e .0 i) (e .1 i)) ∙ judgement-unpacked w s a b in
     (subst (JudgesPlanes w s z a0 a1 a2 b0 b1 b2) (sym means) (frame-judges w s a b), e .1 ∙ wrong-unpacked (judgement w s a b) ∙ sym (ap (λ m. m .wrong) means))
 

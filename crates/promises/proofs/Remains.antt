@@ -21,10 +21,11 @@ use Rattle.setting.specs.declared.admission.Served.{Served}
 use Rattle.plan.specs.Conversion.{convert}
 use Rattle.plan.specs.Source.{hasSource}
 use Rattle.compare.specs.Compare.{differ}
-use Rattle.admit.specs.Rules.{pictureAdmission}
-use Rattle.frame.specs.Frame.{inputPicture, outputLayout, frameAdmission, frameBy, frameAnswer, planeBy, lengthOf, outPlane, PlanesAfter}
+use Rattle.admit.specs.Rules.{pictureAdmission, frameAdmission}
+use Rattle.paint.specs.Paint.{inputPicture, outputLayout}
+use Rattle.paint.specs.declared.Size.{Size}
+use Rattle.frame.specs.Frame.{frameBy, frameAnswer, planeBy, lengthOf, outPlane, PlanesAfter}
 use Rattle.frame.specs.declared.FrameAnswer.{FrameAnswer}
-use Rattle.frame.specs.declared.Size.{Size}
 use Rattle.image_check.specs.Image.{fails, firstFailing, answerFound, imageBy, imageAnswer}
 use Rattle.judge.specs.Judge.{isWrong, verdict, judgeBy, judgement}
 use Rattle.judge.proofs.PlaceLaws.{places-same}

@@ -5,7 +5,7 @@ use denote.Ref.{now}
 use lib.ListN.{length}
 use Rattle.planes.specs.Sizes.{Fits}
 use Rattle.setting.specs.declared.Way.the-variants.{Forward, Reverse}
-use Rattle.frame.specs.Frame.{inputPicture, outputLayout}
+use Rattle.paint.specs.Paint.{inputPicture, outputPicture, outputLayout}
 use Rattle.corkplover.specs.Meaning.{meaningOfPixel, meaningOfFrame}
 use Rattle.corkplover.proofs.Calls.{image-check-answers, forward-frame-answers, reverse-frame-answers}
 use Rattle.corkplover.proofs.pixels.forward_pixel.Reads as forward-pixel
@@ -15,7 +15,7 @@ use Rattle.corkplover.proofs.frames.forward_frame.Reads as forward-frame
 use Rattle.corkplover.proofs.frames.reverse_frame.Reads as reverse-frame
 use Rattle.promises.specs.Lossless.{Listed}
 use Rattle.promises.specs.Pixels.{samplesOf}
-use Rattle.promises.specs.Frames.{leftIn, Alike, HandedOn, SamePixels}
+use Rattle.promises.specs.Frames.{Alike, HandedOn, SamePixels}
 use Rattle.promises.proofs.PixelPairs as pixels
 use Rattle.promises.proofs.FramePairs as frames
 use Rattle.promises.proofs.Remains.{same-image, nothing-remains}
@@ -78,7 +78,7 @@ pub frame-comes-back : (κs κs' s size size' r g b y cb cr y' cb' cr' r' g' b' 
     let back = t' .1 .1 .1 .1 .1 in
     HandedOn size size' (now (left .0)) (now (left .1 .0)) (now (left .1 .1 .0)) (now y') (now cb') (now cr')
     → Fits (size .width) (size .height) (outputLayout size' (length (now r')) (length (now g')) (length (now b')))
-    → (meaningOfFrame x' .number ≡ 0) × SamePixels (inputPicture size (now r) (now g) (now b)) (leftIn size' (now (back .0)) (now (back .1 .0)) (now (back .1 .1 .0)))
+    → (meaningOfFrame x' .number ≡ 0) × SamePixels (inputPicture size (now r) (now g) (now b)) (outputPicture size' (now (back .0)) (now (back .1 .0)) (now (back .1 .1 .0)))
 frame-comes-back κs κs' s size size' r g b y cb cr y' cb' cr' r' g' b' x x' t t' l h h' e handed fit =
     frames.frame-comes-back s l size size' (now r) (now g) (now b) (now y) (now cb) (now cr) (now r') (now g') (now b')
     (forward-frame-keeps κs s size r g b y cb cr x t h) e handed fit (reverse-frame-keeps κs' s size' y' cb' cr' r' g' b' x' t' h')
@@ -90,7 +90,7 @@ pub frame-one-to-one : (κs κs' s size size' r g b y cb cr r' g' b' y' cb' cr' 
     → meaningOfFrame x .number ≡ 0 → meaningOfFrame x' .number ≡ 0 → size .width ≡ size' .width → size .height ≡ size' .height
     → let left = t .1 .1 .1 .1 .1 in
     let left' = t' .1 .1 .1 .1 .1 in
-    SamePixels (leftIn size (now (left .0)) (now (left .1 .0)) (now (left .1 .1 .0))) (leftIn size' (now (left' .0)) (now (left' .1 .0)) (now (left' .1 .1 .0)))
+    SamePixels (outputPicture size (now (left .0)) (now (left .1 .0)) (now (left .1 .1 .0))) (outputPicture size' (now (left' .0)) (now (left' .1 .0)) (now (left' .1 .1 .0)))
     → SamePixels (inputPicture size (now r) (now g) (now b)) (inputPicture size' (now r') (now g') (now b'))
 frame-one-to-one κs κs' s size size' r g b y cb cr r' g' b' y' cb' cr' x x' t t' l h h' e e' wide high same =
     frames.frames-one-to-one s l (forward-frame-keeps κs s size r g b y cb cr x t h) (forward-frame-keeps κs' s size' r' g' b' y' cb' cr' x' t' h') e e' wide high same

@@ -6,7 +6,7 @@ use lib.ListN.{length}
 use Rattle.planes.specs.Picture.{picture}
 use Rattle.planes.specs.Sizes.{Fits}
 use Rattle.setting.specs.declared.Way.the-variants.{Forward, Reverse}
-use Rattle.frame.specs.Frame.{inputPicture, outputLayout}
+use Rattle.paint.specs.Paint.{inputPicture, outputPicture, outputLayout}
 use Rattle.image_check.specs.Image.{imageAnswer}
 use Rattle.corkplover.specs.Meaning.{meaningInPixel, meaningInFrame}
 use Rattle.corkplover.specs.Packing.{settingIn, pixelFrom, sizes, packedFrame, packedImage}
@@ -17,7 +17,7 @@ use Rattle.corkplover.proofs.frame_exports.corkplover_image_check.Reads as imag
 use Rattle.corkplover.proofs.frame_exports.corkplover_forward_frame.Reads as forward-frame
 use Rattle.corkplover.proofs.frame_exports.corkplover_reverse_frame.Reads as reverse-frame
 use Rattle.promises.specs.Lossless.{Listed}
-use Rattle.promises.specs.Frames.{leftIn, Alike, HandedOn, SamePixels}
+use Rattle.promises.specs.Frames.{Alike, HandedOn, SamePixels}
 use Rattle.promises.proofs.PixelPairs as pixels
 use Rattle.promises.proofs.FramePairs as frames
 use Rattle.promises.proofs.Remains.{same-image, nothing-remains}
@@ -82,7 +82,7 @@ pub corkplover-frame-comes-back : (κs κs' word w h from to w' h' from' to' r g
     HandedOn (sizes w h from to) (sizes w' h' from' to') (now (left .0)) (now (left .1 .0)) (now (left .1 .1 .0)) (now y') (now cb') (now cr')
     → Fits w h (outputLayout (sizes w' h' from' to') (length (now r')) (length (now g')) (length (now b')))
     → (meaningInFrame x' .number ≡ 0)
-    × SamePixels (inputPicture (sizes w h from to) (now r) (now g) (now b)) (leftIn (sizes w' h' from' to') (now (back .0)) (now (back .1 .0)) (now (back .1 .1 .0)))
+    × SamePixels (inputPicture (sizes w h from to) (now r) (now g) (now b)) (outputPicture (sizes w' h' from' to') (now (back .0)) (now (back .1 .0)) (now (back .1 .1 .0)))
 corkplover-frame-comes-back κs κs' word w h from to w' h' from' to' r g b y cb cr y' cb' cr' r' g' b' x x' t t' l k k' e handed fit =
     frames.frame-comes-back (settingIn word) l (sizes w h from to) (sizes w' h' from' to') (now r) (now g) (now b) (now y) (now cb) (now cr) (now r') (now g') (now b')
     (corkplover-forward-frame-keeps κs word w h from to r g b y cb cr x t k) e handed fit (corkplover-reverse-frame-keeps κs' word w' h' from' to' y' cb' cr' r' g' b' x' t' k')
@@ -93,7 +93,7 @@ pub corkplover-frame-one-to-one : (κs κs' word w h from to from' to' r g b y c
     → meaningInFrame x .number ≡ 0 → meaningInFrame x' .number ≡ 0
     → let left = t .1 .1 .1 .1 .1 .1 .1 .1 in
     let left' = t' .1 .1 .1 .1 .1 .1 .1 .1 in
-    SamePixels (leftIn (sizes w h from to) (now (left .0)) (now (left .1 .0)) (now (left .1 .1 .0))) (leftIn (sizes w h from' to') (now (left' .0)) (now (left' .1 .0)) (now (left' .1 .1 .0)))
+    SamePixels (outputPicture (sizes w h from to) (now (left .0)) (now (left .1 .0)) (now (left .1 .1 .0))) (outputPicture (sizes w h from' to') (now (left' .0)) (now (left' .1 .0)) (now (left' .1 .1 .0)))
     → SamePixels (inputPicture (sizes w h from to) (now r) (now g) (now b)) (inputPicture (sizes w h from' to') (now r') (now g') (now b'))
 corkplover-frame-one-to-one κs κs' word w h from to from' to' r g b y cb cr r' g' b' y' cb' cr' x x' t t' l k k' e e' same =
     frames.frames-one-to-one (settingIn word) l (corkplover-forward-frame-keeps κs word w h from to r g b y cb cr x t k)

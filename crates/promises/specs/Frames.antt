@@ -8,13 +8,14 @@ use Rattle.setting.specs.Rules.{served}
 use Rattle.setting.specs.declared.Call.the-variants as call
 use Rattle.setting.specs.declared.Setting.{Setting}
 use Rattle.setting.specs.declared.Way.{Way}
-use Rattle.planes.specs.Picture.{Picture, picture, planeAt, pixelOf}
+use Rattle.planes.specs.Picture.{Picture, planeAt, pixelOf}
 use Rattle.planes.specs.Plane.{SamePicture}
 use Rattle.planes.specs.declared.size.Layout.{Layout}
 use Rattle.plan.specs.Conversion.{convert}
 use Rattle.admit.specs.Rules.{pictureRules}
-use Rattle.frame.specs.Frame.{inputPicture, outputLayout, lengthOf}
-use Rattle.frame.specs.declared.Size.{Size}
+use Rattle.paint.specs.Paint.{inputPicture, outputPicture, outputLayout}
+use Rattle.paint.specs.declared.Size.{Size}
+use Rattle.frame.specs.Frame.{lengthOf}
 use Rattle.corkplover.specs.Meaning.{Meaning}
 use Rattle.promises.specs.Refusing.{Refuses, BadIn}
 
@@ -31,14 +32,10 @@ pub record ConvertsFrame (w : Way) (s : Setting) (a : Picture) (b : Layout) (m :
   pub inside : m .number ≡ 0 → (j i : ℕ) → j < a .height → i < a .width → pixelOf c j i ≡ convert w (served s) (pixelOf a j i)
   pub outside : m .number ≡ 0 → (k n : ℕ) → k < 3 → n < lengthOf k b → Outside (a .width) (a .height) (b .stride) n → getD (planeAt k c) n 0 ≡ 0
 
--- the picture that a call has left in its output planes
-abbrev pub leftIn : Size → List ℕ → List ℕ → List ℕ → Picture
-leftIn z p0 p1 p2 = picture (z .width) (z .height) (z .«output_stride») p0 p1 p2
-
 -- the same by a call's parameters: planes a are read, planes b are lent, and planes p are what is in those afterwards
 abbrev pub ConvertsPlanes : Way → Setting → Size → (a0 a1 a2 b0 b1 b2 : List ℕ) → Meaning → (p0 p1 p2 : List ℕ) → Type 0
 ConvertsPlanes w s z a0 a1 a2 b0 b1 b2 m p0 p1 p2 =
-    ConvertsFrame w s (inputPicture z a0 a1 a2) (outputLayout z (length b0) (length b1) (length b2)) m (leftIn z p0 p1 p2)
+    ConvertsFrame w s (inputPicture z a0 a1 a2) (outputLayout z (length b0) (length b1) (length b2)) m (outputPicture z p0 p1 p2)
 
 -- two planes of one length with the same samples inside the picture
 pub record SamePlane (width height stride : ℕ) (p q : List ℕ) : Type 0 where

@@ -16,9 +16,9 @@ use Rattle.scan.specs.First.{IsFirstPlace}
 use Rattle.compare.specs.Count.{countPlaces}
 use Rattle.compare.specs.Compare.{differ}
 use Rattle.admit.specs.Rules.{pictureRules}
-use Rattle.frame.specs.Frame.{inputPicture, outPlane}
-use Rattle.frame.specs.declared.Size.{Size}
-use Rattle.judge.specs.Judge.{claimedPicture}
+use Rattle.paint.specs.Paint.{inputPicture, outputPicture}
+use Rattle.paint.specs.declared.Size.{Size}
+use Rattle.frame.specs.Frame.{outPlane}
 use Rattle.corkplover.specs.Meaning.{Meaning}
 use Rattle.promises.specs.Frames.{SamePixels}
 use Rattle.promises.specs.Refusing.{Refuses, BadIn}
@@ -51,7 +51,7 @@ pub record JudgesFrame (w : Way) (s : Setting) (a b : Picture) (m : Meaning) : T
 
 -- the same by a call's parameters: planes a are the source, planes b are claimed
 abbrev pub JudgesPlanes : Way → Setting → Size → (a0 a1 a2 b0 b1 b2 : List ℕ) → Meaning → Type 0
-JudgesPlanes w s z a0 a1 a2 b0 b1 b2 m = JudgesFrame w s (inputPicture z a0 a1 a2) (claimedPicture z b0 b1 b2) m
+JudgesPlanes w s z a0 a1 a2 b0 b1 b2 m = JudgesFrame w s (inputPicture z a0 a1 a2) (outputPicture z b0 b1 b2) m
 
 -- what a frame call answered, beside a judgement of the planes that it left: it agrees, or is refused as the frame was
 pub record OwnAgrees (m m' : Meaning) : Type 0 where

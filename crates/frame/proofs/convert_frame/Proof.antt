@@ -4,8 +4,10 @@ use mathlib.Core.Path.{_≡_, sym, ap, _∙_}
 use borrow.Author.Needs.{needs}
 use lib.ListN.{length}
 use Rattle.planes.specs.Plane.{zeros}
-use Rattle.frame.specs.Frame.{inputPicture, outputLayout, frameBy, FrameAfter}
-use Rattle.frame.proofs.FrameLaws.{FrameSized, paintable, painted-all, turned-away, refused-first}
+use Rattle.admit.proofs.LetIn.{FrameSized, paintable}
+use Rattle.paint.specs.Paint.{inputPicture, outputLayout}
+use Rattle.frame.specs.Frame.{frameBy, FrameAfter}
+use Rattle.frame.proofs.FrameLaws.{painted-all, turned-away, refused-first}
 use Rattle.frame.proofs.convert_frame.Statement.{statement}
 use Rattle.frame.proofs.convert_frame.Tie as tie
 

@@ -2,9 +2,8 @@
 use mathlib.Core.Path.{sym, _∙_}
 use borrow.Author.Needs.{needs}
 use Rattle.planes.specs.Picture.{Picture, layoutOf}
-use Rattle.frame.specs.Frame.{inputPicture}
-use Rattle.frame.proofs.FrameLaws.{FrameSized, paintable, not-let-in}
-use Rattle.judge.specs.Judge.{claimedPicture}
+use Rattle.admit.proofs.LetIn.{FrameSized, paintable, not-let-in}
+use Rattle.paint.specs.Paint.{inputPicture, outputPicture}
 use Rattle.judge.proofs.JudgeLaws.{refused-first, refused-after, told-all}
 use Rattle.judge.proofs.judge_frame.Statement.{statement}
 use Rattle.judge.proofs.judge_frame.Tie as tie
@@ -14,7 +13,7 @@ abbrev source : tie.Start → Picture
 source s = inputPicture (s .args .size) (s .args .a0 .now) (s .args .a1 .now) (s .args .a2 .now)
 
 abbrev claimed : tie.Start → Picture
-claimed s = claimedPicture (s .args .size) (s .args .b0 .now) (s .args .b1 .now) (s .args .b2 .now)
+claimed s = outputPicture (s .args .size) (s .args .b0 .now) (s .args .b1 .now) (s .args .b2 .now)
 
 let-in : (c : tie.After-served) → let s = c .before .before .before .before .before .before .before .before .before in FrameSized (s .args .way) (s .args .s) (source s) (layoutOf (claimed s)) (c .served .given .0 .0)
 let-in c = record { is-sized = sym (c .before .before .admit-sizes .ensures) ∙ c .served .given .1 }

@@ -4,9 +4,8 @@ use mathlib.Core.Path.{_≡_, ap, _∙_}
 use borrow.Author.Needs.{needs}
 use Rattle.sample.specs.Depth.{tops}
 use Rattle.setting.specs.Call.{inputOf}
-use Rattle.frame.specs.Frame.{inputPicture}
-use Rattle.frame.proofs.FrameLaws.{takes-up-to}
-use Rattle.judge.specs.Judge.{claimedPicture}
+use Rattle.paint.specs.Paint.{inputPicture, outputPicture}
+use Rattle.paint.proofs.TopLaws.{takes-up-to}
 use Rattle.judge.proofs.JudgeLaws.{judged-if}
 use Rattle.judge.proofs.judged.Statement.{statement}
 use Rattle.judge.proofs.judged.Tie as tie
@@ -26,7 +25,7 @@ returns : tie.Need-returns
 returns c =
     let x = c .before .before .before .before .before .before .before .before .before .before .before .args in
     judged-if (x .way) (x .served) (c .before .plan-rows .ensures) _ (top-is (c .before .before)) (inputPicture (x .size) (x .a0 .now) (x .a1 .now) (x .a2 .now))
-    (claimedPicture (x .size) (x .b0 .now) (x .b1 .now) (x .b2 .now)) _ (c .tell .ensures)
+    (outputPicture (x .size) (x .b0 .now) (x .b1 .now) (x .b2 .now)) _ (c .tell .ensures)
 
 pub judged-spec : {M : Type 1} → statement M
 judged-spec = tie.close (tie.spec (λ c κs. search needs) (λ c κs. search needs) (λ c κs. search needs) tell-requires returns)

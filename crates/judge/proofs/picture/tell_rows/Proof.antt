@@ -8,8 +8,7 @@ use borrow.Author.Tests.{not-true, not-false}
 use Rattle.planes.specs.Picture.{picture}
 use Rattle.row_plan.specs.RowPlan.{rowPlanned}
 use Rattle.scan.proofs.Searches.{no}
-use Rattle.frame.specs.Frame.{inputPicture}
-use Rattle.judge.specs.Judge.{claimedPicture}
+use Rattle.paint.specs.Paint.{inputPicture, outputPicture}
 use Rattle.judge.proofs.PictureLaws.{Rows, rows-none, row-beyond, row-told, rows-all, rows-most}
 use Rattle.judge.proofs.picture.tell_rows.Statement.{statement}
 use Rattle.judge.proofs.picture.tell_rows.Tie as tie
@@ -31,7 +30,7 @@ tally-run-requires c κs =
 returns : tie.Need-returns Inv-loop μ-loop
 returns c =
     let x = c .before .before .before .before .before .before .before .before .before .before .before .before .before .args in (
-      no (row-beyond (inputPicture (x .size) (x .a0 .now) (x .a1 .now) (x .a2 .now)) (claimedPicture (x .size) (x .b0 .now) (x .b1 .now) (x .b2 .now)) _ (c .before .before .before .before .row-start .ensures .is) (c .before .before .before .row-start2 .ensures .is) (c .before .before .tally-run .ensures) (omega arith) (not-true _ (c .if1 .taken))),
+      no (row-beyond (inputPicture (x .size) (x .a0 .now) (x .a1 .now) (x .a2 .now)) (outputPicture (x .size) (x .b0 .now) (x .b1 .now) (x .b2 .now)) _ (c .before .before .before .before .row-start .ensures .is) (c .before .before .before .row-start2 .ensures .is) (c .before .before .tally-run .ensures) (omega arith) (not-true _ (c .if1 .taken))),
       λ e. absurd (true≢false (sym e)),
     )
 
@@ -42,7 +41,7 @@ add-wrong : tie.Need-add-wrong Inv-loop μ-loop
 add-wrong c =
     let x = c .before .before .before .before .before .before .before .before .before .before .before .before .before .before .before in
     let l = c .before .before .before .before .before .before .before .before .loop in
-    let e = row-told (inputPicture (x .args .size) (x .args .a0 .now) (x .args .a1 .now) (x .args .a2 .now)) (claimedPicture (x .args .size) (x .args .b0 .now) (x .args .b1 .now) (x .args .b2 .now)) (l .j)
+    let e = row-told (inputPicture (x .args .size) (x .args .a0 .now) (x .args .a1 .now) (x .args .a2 .now)) (outputPicture (x .args .size) (x .args .b0 .now) (x .args .b1 .now) (x .args .b2 .now)) (l .j)
     (c .before .before .before .before .before .before .row-start .ensures .is) (c .before .before .before .before .before .row-start2 .ensures .is) (c .before .before .before .before .tally-run .ensures) (not-false _ (c .before .before .if1 .left)) (l .inv) (omega arith) in
     let sized = x .pre .1 .1 .0 .sized in
     omega (arith, rows-most e (sized .width-within .to-most) (sized .height-within .to-most))
@@ -51,7 +50,7 @@ loop-again : tie.Need-loop-again Inv-loop μ-loop
 loop-again c =
     let x = c .before .before .before .before .before .before .before .before .before .before .before .before .before .before .before .args in
     let l = c .before .before .before .before .before .before .before .before .loop in
-    rw (c .before .or-row .ensures) (row-told (inputPicture (x .size) (x .a0 .now) (x .a1 .now) (x .a2 .now)) (claimedPicture (x .size) (x .b0 .now) (x .b1 .now) (x .b2 .now)) _ (c .before .before .before .before .before .before .row-start .ensures .is) (c .before .before .before .before .before .row-start2 .ensures .is) (c .before .before .before .before .tally-run .ensures) (not-false _ (c .before .before .if1 .left)) (l .inv) (omega arith))
+    rw (c .before .or-row .ensures) (row-told (inputPicture (x .size) (x .a0 .now) (x .a1 .now) (x .a2 .now)) (outputPicture (x .size) (x .b0 .now) (x .b1 .now) (x .b2 .now)) _ (c .before .before .before .before .before .before .row-start .ensures .is) (c .before .before .before .before .before .row-start2 .ensures .is) (c .before .before .before .before .tally-run .ensures) (not-false _ (c .before .before .if1 .left)) (l .inv) (omega arith))
 
 returns-2 : tie.Need-returns-2 Inv-loop μ-loop
 returns-2 c = rows-all (c .before .loop .inv) (omega arith)

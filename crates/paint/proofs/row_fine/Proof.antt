@@ -1,8 +1,8 @@
--- `frame::paint::row_fine` meets its contract: the samples of three parts are those of three runs.
+-- `paint::row_fine` meets its contract: the samples of three parts are those of three runs.
 use borrow.Author.Needs.{needs}
-use Rattle.frame.proofs.FineLaws.{fine-parts, first-fine, second-fine, third-fine}
-use Rattle.frame.proofs.paint.row_fine.Statement.{statement}
-use Rattle.frame.proofs.paint.row_fine.Tie as tie
+use Rattle.paint.proofs.FineLaws.{fine-parts, first-fine, second-fine, third-fine}
+use Rattle.paint.proofs.row_fine.Statement.{statement}
+use Rattle.paint.proofs.row_fine.Tie as tie
 
 returns : tie.Need-returns
 returns c =

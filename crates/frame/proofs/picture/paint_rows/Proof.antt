@@ -1,4 +1,4 @@
--- `frame::paint::paint_rows` meets its contract: with each turn the planes are painted one row further, and one row more was seen to be within its
+-- `frame::picture::paint_rows` meets its contract: with each turn the planes are painted one row further, and one row more was seen to be within its
 -- tops; in the end the rest is zeros.
 use mathlib.Core.Path.{sym}
 use mathlib.Core.Bool.{true≢false}
@@ -12,10 +12,11 @@ use Rattle.planes.specs.Picture.{picture}
 use Rattle.planes.specs.Sizes.{layout}
 use Rattle.scan.proofs.Searches.{yes, no}
 use Rattle.row_plan.specs.RowPlan.{rowPlanned}
-use Rattle.frame.specs.Frame.{inputPicture, outputLayout}
-use Rattle.frame.proofs.PaintLaws.{Painting, painting-none, Seen, seen-none, seen-more, seen-all, Turn, output-long, row-room, row-of-every, painting-more, rest-long, painting-end}
-use Rattle.frame.proofs.paint.paint_rows.Statement.{statement}
-use Rattle.frame.proofs.paint.paint_rows.Tie as tie
+use Rattle.paint.specs.Paint.{inputPicture, outputLayout}
+use Rattle.paint.proofs.RowLaws.{Seen, seen-none, seen-all}
+use Rattle.frame.proofs.PaintLaws.{Painting, painting-none, seen-more, Turn, output-long, row-room, row-of-every, painting-more, rest-long, painting-end}
+use Rattle.frame.proofs.picture.paint_rows.Statement.{statement}
+use Rattle.frame.proofs.picture.paint_rows.Tie as tie
 
 abbrev Inv-loop : tie.InvT-loop
 Inv-loop plan tops a0 a1 a2 b0₀ b1₀ b2₀ width height input-stride output-stride done₀ j₀ b0 b1 b2 done j =

@@ -1,7 +1,7 @@
--- `frame::paint::paint` meets its contract: where both strides are the width the picture is painted as a whole, and else row by row.
+-- `frame::picture::paint` meets its contract: where both strides are the width the picture is painted as a whole, and else row by row.
 use borrow.Author.Needs.{needs}
-use Rattle.frame.proofs.paint.paint.Statement.{statement}
-use Rattle.frame.proofs.paint.paint.Tie as tie
+use Rattle.frame.proofs.picture.paint.Statement.{statement}
+use Rattle.frame.proofs.picture.paint.Tie as tie
 
 paint-whole-requires : tie.Need-paint-whole-requires
 paint-whole-requires c κs =

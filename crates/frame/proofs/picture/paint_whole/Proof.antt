@@ -1,4 +1,4 @@
--- `frame::paint::paint_whole` meets its contract: the picture is one run on either side, and once it is painted the rest is zeros.
+-- `frame::picture::paint_whole` meets its contract: the picture is one run on either side, and once it is painted the rest is zeros.
 use mathlib.Core.Path.{refl, sym, ap}
 use mathlib.Core.Bool.{true≢false}
 use Prim.Native.Nat.{_+_}
@@ -13,8 +13,8 @@ use Rattle.planes.specs.declared.size.Layout.{Layout}
 use Rattle.scan.proofs.Searches.{yes, no}
 use Rattle.row_plan.specs.RowPlan.{rowPlanned}
 use Rattle.frame.proofs.PaintLaws.{Whole, whole-room, whole-of-every, every-of-whole, painting-whole, rest-long, painting-end}
-use Rattle.frame.proofs.paint.paint_whole.Statement.{statement}
-use Rattle.frame.proofs.paint.paint_whole.Tie as tie
+use Rattle.frame.proofs.picture.paint_whole.Statement.{statement}
+use Rattle.frame.proofs.picture.paint_whole.Tie as tie
 
 -- the picture that is read, and the layout of what is written
 abbrev source : tie.Start → Picture

@@ -1,0 +1,2 @@
+-- A row, tested and painted.
+pub mod Paint
