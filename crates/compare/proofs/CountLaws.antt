@@ -7,7 +7,9 @@ use native.Mathlib.Nat.{add-zero, add-suc, eq-or-lt-of-le, le-of-suc-le-suc, not
 use native.Mathlib.Omega.{arith}
 use borrow.Author.Count.{below-more}
 use Rattle.sample.proofs.Choices.{below-or-not}
-use Rattle.compare.specs.Count.{oneIf, countOf, FirstAt}
+use Rattle.sample.specs.Flag.{oneIf}
+use Rattle.sample.proofs.FlagLaws.{one-most, one-none}
+use Rattle.compare.specs.Count.{countOf, FirstAt}
 
 -- ---- counting
 
@@ -18,10 +20,6 @@ count-none test = refl
 pub count-more : (n : ℕ) (test : ℕ → Bool) → countOf (n + 1) test ≡ countOf n test + oneIf (test n)
 unfolding countOf
 count-more n test = ap (λ k. countOf k test) (let e : n + 1 ≡ suc n = omega arith in e)
-
-pub one-most : (b : Bool) → oneIf b ≤ 1
-one-most true = omega arith
-one-most false = omega arith
 
 pub count-most : (n : ℕ) (test : ℕ → Bool) → countOf n test ≤ n
 unfolding countOf
@@ -44,10 +42,6 @@ count-same zero f g e = refl
 count-same (suc n) f g e = rw (count-same n f g (λ k h. e k (omega arith)), e n (omega arith))
 
 -- none is counted exactly if none passes
-one-none : (b : Bool) → oneIf b ≡ 0 → b ≡ false
-one-none true e = absurd (omega arith)
-one-none false e = refl
-
 pub none-counted : (n : ℕ) (test : ℕ → Bool) → countOf n test ≡ 0 → (k : ℕ) → k < n → test k ≡ false
 unfolding countOf
 none-counted zero test e k h = absurd (not-suc-le-zero h)

@@ -2,11 +2,7 @@
 use mathlib.Core.Path.{_≡_}
 use mathlib.Core.Bool.{Bool, true, false}
 use Prim.Native.Nat.{ℕ, zero, suc, _+_, _≤_, _<_}
-
--- what a test adds to a count: one where it passed
-abbrev pub oneIf : Bool → ℕ
-oneIf true = 1
-oneIf false = 0
+use Rattle.sample.specs.Flag.{oneIf}
 
 -- how many of 0, .., n - 1 pass
 unfoldable pub countOf : ℕ → (ℕ → Bool) → ℕ

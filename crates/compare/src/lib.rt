@@ -2,9 +2,10 @@
 ghost use mathlib.Core.Path.{_≡_};
 ghost use Prim.Native.Nat.{_+_, _≤_};
 ghost use lib.ListN.{length, take};
+ghost use Rattle.sample.specs.Flag.{oneIf};
 ghost use Rattle.planes.specs.Sizes.{Long};
 ghost use Rattle.convert.specs.Row.{rowPart, OneWidth};
-ghost use Rattle.compare.specs.Count.{oneIf, countOf, FirstAt};
+ghost use Rattle.compare.specs.Count.{countOf, FirstAt};
 ghost use Rattle.compare.specs.Compare.{mostPart, differ, rowsDiffer, Compared};
 use convert::pixels::pixel_in;
 use sample::Pixel;

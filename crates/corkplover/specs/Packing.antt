@@ -1,11 +1,12 @@
 -- Answers and settings as one number each, for callers in other languages. In an answer bits 0 to 7 are 0 or the refusal's number; a 10
 -- has its plane from bit 8, its row from bit 16, its column from bit 32 and its sample from bit 48; an accepted pixel has its samples from
 -- bits 16, 32 and 48. All other bits are 0.
-use mathlib.Core.Bool.{Bool, true, false}
+use mathlib.Core.Bool.{false}
 use Prim.Native.Nat.{ℕ, _+_, _*_, _/_, _%_}
 use lib.Dec.{eqb}
 use lib.IntN.{pos}
 use lib.Ieee.{Float, fin}
+use Rattle.sample.specs.Flag.{oneIf}
 use Rattle.sample.specs.declared.Pixel.{Pixel}
 use Rattle.meter.specs.declared.PixelLevels.{PixelLevels}
 use Rattle.refusal.specs.declared.Refusal.{Refusal}
@@ -101,14 +102,10 @@ settingIn word =
     }
 
 -- and a setting put into one, with anything in the bits between
-abbrev pub bit : Bool → ℕ
-bit true = 1
-bit false = 0
-
 abbrev pub settingWord : Setting → ℕ → ℕ
 settingWord s between =
     s .primaries + s .transfer * 256 + s .matrix * 65536 + s .«rgb_depth» * 16777216 + s .«y_depth» * 4294967296 + s .«c_depth» * 1099511627776
-    + bit (s .«rgb_full») * 281474976710656 + bit (s .«ycc_full») * 562949953421312 + between * 1125899906842624
+    + oneIf (s .«rgb_full») * 281474976710656 + oneIf (s .«ycc_full») * 562949953421312 + between * 1125899906842624
     + s .edition * 72057594037927936
 
 -- a pixel of three parameters, and sizes of four

@@ -5,6 +5,7 @@ use mathlib.Core.Bool.{Bool, cond}
 use mathlib.Core.List.{List}
 use Prim.Native.Nat.{ℕ}
 use lib.Dec.{eqb}
+use Rattle.sample.specs.Flag.{oneIf}
 use Rattle.refusal.specs.Rules.{first}
 use Rattle.refusal.specs.declared.Check.{Check}
 use Rattle.refusal.specs.declared.Check.the-variants as check
@@ -14,7 +15,7 @@ use Rattle.nclx.specs.declared.LabelRead.{LabelRead}
 use Rattle.nclx.specs.declared.LabelRead.the-variants as read
 use Rattle.nclx.specs.declared.picking.Choice.{Choice}
 use Rattle.nclx.specs.declared.picking.Choice.the-variants as choices
-use Rattle.corkplover.specs.Packing.{packed, numberIn, secondIn, firstIn, middleIn, lastIn, bit, packedRefusal}
+use Rattle.corkplover.specs.Packing.{packed, numberIn, secondIn, firstIn, middleIn, lastIn, packedRefusal}
 use Rattle.corkplover.specs.Meaning.{refusalIn}
 
 -- a label of four parameters
@@ -22,7 +23,7 @@ abbrev pub labelFrom : ℕ → ℕ → ℕ → Bool → ColourLabel
 labelFrom primaries transfer matrix full = record { primaries = primaries; transfer = transfer; matrix = matrix; full = full }
 
 abbrev pub packedRead : LabelRead → ℕ
-packedRead (read.Label l) = packed 0 (bit (l .full)) (l .primaries) (l .transfer) (l .matrix)
+packedRead (read.Label l) = packed 0 (oneIf (l .full)) (l .primaries) (l .transfer) (l .matrix)
 packedRead (read.Refused r) = packedRefusal r
 
 abbrev pub packedCheck : Check → ℕ

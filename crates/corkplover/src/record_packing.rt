@@ -1,6 +1,5 @@
 // The answers of the calls on colour records, as one number each.
 ghost use mathlib.Core.Path.{_≡_};
-ghost use Rattle.corkplover.specs.Packing.{bit};
 ghost use Rattle.corkplover.specs.RecordPacking.{packedRead, packedCheck, packedChoice, labelFrom};
 use crate::packing::pack;
 use crate::packing::pack_refusal;
@@ -9,16 +8,10 @@ use nclx::LabelRead;
 use nclx::picking::Choice;
 use refusal::Check;
 
-fn one_if(flag: bool) -> u8
-    ensures { λ r. ⌜ r ≡ bit flag ⌝ }
-{
-    if flag { 1 } else { 0 }
-}
-
 fn pack_label(label: ColourLabel) -> u64
     ensures { λ r. ⌜ r ≡ packedRead (LabelRead.Label label) ⌝ }
 {
-    let full = one_if(label.full);
+    let full = sample::one_if(label.full);
     let primaries = label.primaries as u16;
     let transfer = label.transfer as u16;
     let matrix = label.matrix as u16;

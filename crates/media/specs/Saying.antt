@@ -1,9 +1,10 @@
 -- What colour records say, one by one and together.
-use mathlib.Core.Bool.{Bool, true, false, cond}
+use mathlib.Core.Bool.{cond}
 use mathlib.Core.List.{List}
 use Prim.Native.Nat.{ℕ, _+_, _*_, _/_, _%_}
 use lib.Dec.{eqb, ltb}
 use lib.ListN.{length}
+use Rattle.sample.specs.Flag.{oneIf}
 use Rattle.boxes.specs.Boxes.{wordAt}
 use Rattle.nclx.specs.Record.{labelRead}
 use Rattle.nclx.specs.declared.ColourLabel.{ColourLabel}
@@ -45,12 +46,8 @@ rank = 281474976710656
 abbrev pub olderKey : Codes → ℕ
 olderKey c = (c .primaries * 65536 + c .transfer) * 65536 + c .matrix
 
-abbrev pub rangeKey : Bool → ℕ
-rangeKey true = 1
-rangeKey false = 0
-
 abbrev pub labelKey : ColourLabel → ℕ
-labelKey l = ((l .primaries * 256 + l .transfer) * 256 + l .matrix) * 2 + rangeKey (l .full)
+labelKey l = ((l .primaries * 256 + l .transfer) * 256 + l .matrix) * 2 + oneIf (l .full)
 
 unfoldable pub keyOf : Said → ℕ
 keyOf said.Other = 0

@@ -2,7 +2,7 @@
 ghost use mathlib.Core.Path.{_≡_};
 ghost use Prim.Native.Nat.{_≤_, _<_};
 ghost use lib.ListN.{length};
-ghost use Rattle.media.specs.Saying.{lettersOf, olderOf, nclxSaid, olderSaid, recordSaid, olderKey, rangeKey, labelKey, keyOf, beside, across};
+ghost use Rattle.media.specs.Saying.{lettersOf, olderOf, nclxSaid, olderSaid, recordSaid, olderKey, labelKey, keyOf, beside, across};
 ghost use Rattle.media.specs.SaidIn.{SaidIn};
 ghost use Rattle.media.specs.Inside.{TroubleIn};
 use crate::finding;
@@ -125,13 +125,6 @@ fn older_key(c: Codes) -> u64
     (primaries * 65536 + transfer) * 65536 + matrix
 }
 
-fn range_key(full: bool) -> u64
-    ensures { λ r. ⌜ r ≡ rangeKey full ⌝ }
-    ensures { λ r. ⌜ r < 2 ⌝ }
-{
-    if full { 1 } else { 0 }
-}
-
 fn label_key(l: ColourLabel) -> u64
     ensures { λ r. ⌜ r ≡ labelKey l ⌝ }
     ensures { λ r. ⌜ r < 33554432 ⌝ }
@@ -139,7 +132,7 @@ fn label_key(l: ColourLabel) -> u64
     let primaries = l.primaries as u64;
     let transfer = l.transfer as u64;
     let matrix = l.matrix as u64;
-    let range = range_key(l.full);
+    let range = sample::one_if(l.full) as u64;
     ((primaries * 256 + transfer) * 256 + matrix) * 2 + range
 }
 

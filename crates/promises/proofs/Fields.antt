@@ -1,11 +1,13 @@
 -- Every field of a packed answer comes out again, and so does every field of a setting that was put into a word.
 use mathlib.Core.Path.{_≡_, refl, ap, _∙_}
-use mathlib.Core.Bool.{Bool, true, false}
-use Prim.Native.Nat.{ℕ, _+_, _*_, _/_, _%_, _^_, _<_}
+use mathlib.Core.Bool.{true, false}
+use Prim.Native.Nat.{ℕ, _+_, _*_, _/_, _%_, _^_, _≤_, _<_}
 use native.Mathlib.Omega.{arith}
 use lib.Dec.{eqb}
+use Rattle.sample.specs.Flag.{oneIf}
+use Rattle.sample.proofs.FlagLaws.{one-most, one-out}
 use Rattle.setting.specs.declared.Setting.{Setting}
-use Rattle.corkplover.specs.Packing.{packed, numberIn, secondIn, firstIn, middleIn, lastIn, bit, settingIn, settingWord}
+use Rattle.corkplover.specs.Packing.{packed, numberIn, secondIn, firstIn, middleIn, lastIn, settingIn, settingWord}
 
 pub record Fields (number second a b c x : ℕ) : Type 0 where
   pub number-out : numberIn x ≡ number
@@ -30,18 +32,10 @@ record SettingFields (p t m r y c f g e word : ℕ) : Type 0 where
   ycc-full-out : word / 562949953421312 % 2 ≡ g
   edition-out : word / 72057594037927936 % 256 ≡ e
 
-setting-fields : (p t m r y c f g between e : ℕ) → p < 256 → t < 256 → m < 256 → r < 256 → y < 256 → c < 256 → f < 2 → g < 2 → between < 64 → e < 256
+setting-fields : (p t m r y c f g between e : ℕ) → p < 256 → t < 256 → m < 256 → r < 256 → y < 256 → c < 256 → f ≤ 1 → g ≤ 1 → between < 64 → e < 256
     → SettingFields p t m r y c f g e
     (p + t * 256 + m * 65536 + r * 16777216 + y * 4294967296 + c * 1099511627776 + f * 281474976710656 + g * 562949953421312 + between * 1125899906842624 + e * 72057594037927936)
 setting-fields p t m r y c f g between e hp ht hm hr hy hc hf hg hb he = omega arith
-
-pub bit-small : (b : Bool) → bit b < 2
-bit-small true = omega arith
-bit-small false = omega arith
-
-pub bit-out : (b : Bool) → eqb (bit b) 1 ≡ b
-bit-out true = refl
-bit-out false = refl
 
 -- a setting whose codes and depths fit into bytes, as those of every caller do
 pub record Bytes (s : Setting) : Type 0 where
@@ -57,10 +51,10 @@ pub record Bytes (s : Setting) : Type 0 where
 pub setting-out : (s : Setting) (between : ℕ) → Bytes s → between < 64 → settingIn (settingWord s between) ≡ s
 unfolding settingIn
 setting-out s between h k =
-    let f = setting-fields (s .primaries) (s .transfer) (s .matrix) (s .«rgb_depth») (s .«y_depth») (s .«c_depth») (bit (s .«rgb_full»)) (bit (s .«ycc_full»)) between (s .edition)
-    (h .primaries-fits) (h .transfer-fits) (h .matrix-fits) (h .rgb-fits) (h .luma-fits) (h .chroma-fits) (bit-small (s .«rgb_full»)) (bit-small (s .«ycc_full»)) k (h .edition-fits) in
-    let rgb = ap (λ n. eqb n 1) (f .rgb-full-out) ∙ bit-out (s .«rgb_full») in
-    let ycc = ap (λ n. eqb n 1) (f .ycc-full-out) ∙ bit-out (s .«ycc_full») in
+    let f = setting-fields (s .primaries) (s .transfer) (s .matrix) (s .«rgb_depth») (s .«y_depth») (s .«c_depth») (oneIf (s .«rgb_full»)) (oneIf (s .«ycc_full»)) between (s .edition)
+    (h .primaries-fits) (h .transfer-fits) (h .matrix-fits) (h .rgb-fits) (h .luma-fits) (h .chroma-fits) (one-most (s .«rgb_full»)) (one-most (s .«ycc_full»)) k (h .edition-fits) in
+    let rgb = ap (λ n. eqb n 1) (f .rgb-full-out) ∙ one-out (s .«rgb_full») in
+    let ycc = ap (λ n. eqb n 1) (f .ycc-full-out) ∙ one-out (s .«ycc_full») in
     λ i. record {
       primaries = f .primaries-out i;
       transfer = f .transfer-out i;
@@ -80,4 +74,4 @@ flags-apart = (refl, refl)
 
 -- and a word of 64 bits has room for it
 pub word-fits : (s : Setting) (between : ℕ) → Bytes s → between < 64 → settingWord s between < 18446744073709551616
-word-fits s between h k = let f = bit-small (s .«rgb_full») in let g = bit-small (s .«ycc_full») in omega arith
+word-fits s between h k = let f = one-most (s .«rgb_full») in let g = one-most (s .«ycc_full») in omega arith

@@ -5,6 +5,8 @@ use mathlib.Core.List.{List, []}
 use Prim.Native.Nat.{ℕ, _<_}
 use native.Mathlib.Omega.{arith}
 use lib.Dec.{eqb}
+use Rattle.sample.specs.Flag.{oneIf}
+use Rattle.sample.proofs.FlagLaws.{one-most, one-out}
 use Rattle.refusal.specs.Rules.{Rule, first}
 use Rattle.refusal.specs.declared.Check.{Check}
 use Rattle.refusal.specs.declared.Check.the-variants as check
@@ -19,9 +21,9 @@ use Rattle.nclx.specs.declared.picking.Choice.{Choice}
 use Rattle.nclx.specs.declared.picking.Choice.the-variants as choices
 use Rattle.nclx.proofs.RecordLaws.{sound}
 use Rattle.corkplover.specs.Meaning.{refusalIn}
-use Rattle.corkplover.specs.Packing.{packed, numberIn, secondIn, bit, packedRefusal}
+use Rattle.corkplover.specs.Packing.{packed, numberIn, secondIn, packedRefusal}
 use Rattle.corkplover.specs.RecordPacking.{labelFrom, packedRead, packedCheck, packedChoice, readIn, checkIn, choiceIn}
-use Rattle.promises.proofs.Fields.{fields, bit-small, bit-out}
+use Rattle.promises.proofs.Fields.{fields}
 use Rattle.promises.proofs.Refusing.{Other, other}
 use Rattle.promises.proofs.Unpacked.{other-small, refused-means, free-means, refusal-back}
 
@@ -44,10 +46,10 @@ label-unpacked : (l : ColourLabel) → CodesFit l → readIn (packedRead (read.L
 label-unpacked l h =
     let p = h .primaries-fits in
     let t = h .transfer-fits in
-    let small = bit-small (l .full) in
-    let f = fields 0 (bit (l .full)) (l .primaries) (l .transfer) (l .matrix) (omega arith) (omega arith) (omega arith) (omega arith) in
+    let small = one-most (l .full) in
+    let f = fields 0 (oneIf (l .full)) (l .primaries) (l .transfer) (l .matrix) (omega arith) (omega arith) (omega arith) (omega arith) in
     free-means _ _ _ (ap (λ n. eqb n 0) (f .number-out))
-    ∙ (λ i. read.Label (labelFrom (f .first-out i) (f .middle-out i) (f .last-out i) ((ap (λ n. eqb n 1) (f .second-out) ∙ bit-out (l .full)) i)))
+    ∙ (λ i. read.Label (labelFrom (f .first-out i) (f .middle-out i) (f .last-out i) ((ap (λ n. eqb n 1) (f .second-out) ∙ one-out (l .full)) i)))
 
 read-by : (bytes : List ℕ) (c : Check) → first (recordRules bytes) ≡ c → readIn (packedRead (readBy bytes c)) ≡ readBy bytes c
 read-by bytes check.Passed e = label-unpacked (labelIn bytes) (sound bytes e .codes)

@@ -1,3 +1,4 @@
--- Laws of depths, and of choices by a test.
+-- Laws of depths, of flags, and of choices by a test.
 pub mod Choices
+pub mod FlagLaws
 pub mod DepthLaws

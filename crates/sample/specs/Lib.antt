@@ -1,2 +1,3 @@
--- Depths, in whole numbers.
+-- Depths, in whole numbers, and flags as numbers.
 pub mod Depth
+pub mod Flag

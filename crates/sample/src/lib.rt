@@ -2,6 +2,7 @@
 ghost use mathlib.Core.Path.{_≡_};
 ghost use Prim.Native.Nat.{_^_, _≤_, _<_, max};
 ghost use Rattle.sample.specs.Depth.{mostDepth, Depth, rgbChecked, lumaChecked, chromaChecked, depthsChecked, ThreeDepths, atMost, M, middleOf, S, tops};
+ghost use Rattle.sample.specs.Flag.{oneIf};
 
 // Three samples, by plane: R, G, B on one side and Y, Cb, Cr on the other.
 pub struct Pixel {
@@ -14,6 +15,14 @@ pub struct Pixel {
 pub enum Side {
     Rgb,
     Ycc,
+}
+
+// A flag as a number.
+pub fn one_if(flag: bool) -> u8
+    ensures { λ r. ⌜ r ≡ oneIf flag ⌝ }
+    ensures { λ r. ⌜ r ≤ 1 ⌝ }
+{
+    if flag { 1 } else { 0 }
 }
 
 // The two ends of every depth, and the upper end for a level matrix.

@@ -5,9 +5,11 @@ use Prim.Native.Nat.{ℕ, _+_, _-_, _≤_}
 use native.Mathlib.Omega.{arith}
 use borrow.Author.Needs.{needs}
 use lib.ListN.{length}
-use Rattle.compare.specs.Count.{oneIf, countOf}
+use Rattle.sample.specs.Flag.{oneIf}
+use Rattle.sample.proofs.FlagLaws.{one-most}
+use Rattle.compare.specs.Count.{countOf}
 use Rattle.compare.specs.Compare.{differ, rowsDiffer}
-use Rattle.compare.proofs.CountLaws.{count-none, count-more, count-most, one-most}
+use Rattle.compare.proofs.CountLaws.{count-none, count-more, count-most}
 use Rattle.compare.proofs.count_apart.Statement.{statement}
 use Rattle.compare.proofs.count_apart.Tie as tie
 
