@@ -2,11 +2,11 @@
 use mathlib.Core.List.{List, [], _∷_, _++_}
 use Prim.Native.Nat.{ℕ, zero, suc, _+_, _*_, _-_, _%_, _^_}
 use lib.ListN.{length as size, getD, drop, replicate}
+use Rattle.tables.specs.Table.{tab}
 use Rattle.text.specs.Words.{wordOf, nextOf}
 use Rattle.text.specs.Numerals.{numberOf}
 use Rattle.text.specs.declared.reading.Number.{Number}
 use Rattle.text.specs.declared.reading.Number.the-variants as number
-use Rattle.planes.specs.Plane.{tab}
 use Rattle.request.specs.Form.{largestSample, numberWord, settingWords}
 use Rattle.request.specs.declared.form.ReadNumber.{ReadNumber}
 use Rattle.case_words.specs.declared.Step.{Step}

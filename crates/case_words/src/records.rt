@@ -2,7 +2,7 @@
 ghost use mathlib.Core.Path.{_≡_};
 ghost use Prim.Native.Nat.{_≤_};
 ghost use lib.ListN.{length};
-ghost use Rattle.planes.specs.Plane.{tab};
+ghost use Rattle.tables.specs.Table.{tab};
 ghost use Rattle.case_words.specs.Lines.{planeAt, recordRoom, lowByte, recordOver};
 use crate::ReadPlane;
 use crate::plane;

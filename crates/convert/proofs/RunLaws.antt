@@ -7,9 +7,10 @@ use native.Mathlib.Nat.{zero-add, mod-lt, div-add-mod', div-lt-iff-lt-mul}
 use native.Mathlib.Omega.{arith}
 use lib.ListN.{length, getD}
 use Rattle.sample.specs.declared.Pixel.{Pixel}
+use Rattle.tables.proofs.Tables.{part-width}
 use Rattle.planes.specs.Picture.{Picture, pixelOf, EveryPixel}
 use Rattle.planes.specs.Plane.{sampleAt}
-use Rattle.planes.proofs.Tables.{part-width, part-sample}
+use Rattle.planes.proofs.Parts.{part-sample}
 use Rattle.convert.specs.Row.{rowPart, pixelIn, EveryOf}
 
 -- pixel k of the run, which starts at `from`, is at row `row k` and column `column k`

@@ -5,8 +5,8 @@ use mathlib.Core.List.{List, [], _∷_}
 use Prim.Native.Nat.{ℕ, _+_, _-_, _<_}
 use lib.ListN.{length, getD, take, drop}
 use Rattle.sample.specs.declared.Pixel.{Pixel}
+use Rattle.tables.specs.Table.{tab}
 use Rattle.planes.specs.Picture.{sampleOf}
-use Rattle.planes.specs.Plane.{tab}
 use Rattle.plan.specs.Source.{comesBack}
 
 -- the part of a plane that has n samples from index a on

@@ -14,8 +14,8 @@ use Rattle.setting.specs.declared.Way.{Way}
 use Rattle.setting.specs.declared.admission.Admission.{Admission}
 use Rattle.setting.specs.declared.admission.Admission.the-variants as admission
 use Rattle.setting.specs.declared.admission.Served.{Served}
+use Rattle.tables.specs.Table.{zeros}
 use Rattle.planes.specs.Picture.{Picture, layoutOf, sampleOf, pixelOf, EveryPixel}
-use Rattle.planes.specs.Plane.{zeros}
 use Rattle.planes.specs.Sizes.{sizeRules}
 use Rattle.planes.specs.declared.size.Layout.{Layout}
 use Rattle.planes.proofs.PlaneTheorems.{plane-same}

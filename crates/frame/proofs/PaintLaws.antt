@@ -8,13 +8,13 @@ use native.Mathlib.Omega.{arith}
 use borrow.Author.Count.{below-more}
 use lib.ListN.{length}
 use Rattle.sample.specs.declared.Pixel.{Pixel}
+use Rattle.tables.specs.Table.{patched, cleared}
+use Rattle.tables.proofs.Tables.{part-width}
 use Rattle.planes.specs.Picture.{Picture, picture, layoutOf, pixelOf, sampleOf, EveryPixel}
-use Rattle.planes.specs.Plane.{patched, cleared}
 use Rattle.planes.specs.Sizes.{layout, needed, Long, RowStart, Fits}
 use Rattle.planes.specs.declared.size.Layout.{Layout}
 use Rattle.planes.proofs.Painted.{Progress, progress-none, progress-more, Painted, painted-none, painted-more, painted-whole, painted-end}
 use Rattle.planes.proofs.SizeLaws.{index-inside, needed-whole}
-use Rattle.planes.proofs.Tables.{part-width}
 use Rattle.convert.specs.Row.{rowPart, EveryOf}
 use Rattle.convert.proofs.RunLaws.{Run, row-run, whole-run, run-pixel, pixel-of-part, run-of-every}
 use Rattle.paint.specs.Paint.{mappedPart, RowsPut}

@@ -13,9 +13,10 @@ use Rattle.setting.specs.declared.Way.{Way}
 use Rattle.setting.specs.declared.admission.Admission.{Admission}
 use Rattle.setting.specs.declared.admission.Admission.the-variants as admission
 use Rattle.setting.specs.declared.admission.Served.{Served}
+use Rattle.tables.specs.Table.{zeros}
 use Rattle.scan.specs.First.{NotAbove, Tells}
 use Rattle.planes.specs.Picture.{Picture, pixelOf, sampleOf, EveryPixel}
-use Rattle.planes.specs.Plane.{zeros, planeOf}
+use Rattle.planes.specs.Plane.{planeOf}
 use Rattle.planes.specs.declared.size.Layout.{Layout}
 use Rattle.plan.specs.Conversion.{convert}
 use Rattle.admit.specs.Rules.{frameAdmission}

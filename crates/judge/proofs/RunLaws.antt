@@ -9,10 +9,10 @@ use lib.ListN.{length, getD, take}
 use lib.Seq.{take-at}
 use Rattle.sample.specs.declared.Pixel.{Pixel}
 use Rattle.sample.proofs.Choices.{below-or-not}
+use Rattle.tables.specs.Table.{patched}
+use Rattle.tables.proofs.Tables.{part-at, part-width, length-tab, tab-at}
 use Rattle.planes.specs.Picture.{sampleOf}
 use Rattle.planes.specs.Sizes.{Long}
-use Rattle.planes.specs.Plane.{patched}
-use Rattle.planes.proofs.Tables.{part-at, part-width, length-tab, tab-at}
 use Rattle.scan.specs.First.{RunFine, RunsFine, Tells}
 use Rattle.scan.proofs.Searches.{yes}
 use Rattle.convert.specs.Row.{rowPart, rowOf, pixelIn, ConvertedRows}

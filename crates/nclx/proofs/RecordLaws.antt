@@ -11,8 +11,8 @@ use Rattle.refusal.specs.Rules.{first}
 use Rattle.refusal.specs.declared.Check.the-variants.{Passed}
 use Rattle.refusal.proofs.RuleLaws.{passed-over}
 use Rattle.sample.proofs.Choices.{neither}
-use Rattle.planes.specs.Plane.{tab}
-use Rattle.planes.proofs.Tables.{length-tab, tab-at}
+use Rattle.tables.specs.Table.{tab}
+use Rattle.tables.proofs.Tables.{length-tab, tab-at}
 use Rattle.nclx.specs.Record.{letters, byteAt, primariesIn, transferIn, matrixIn, someCode, wrongLength, codeAbove, recordRules, CodesFit, Sound, codeBytes, rangeOf, recordOf}
 use Rattle.nclx.specs.declared.ColourLabel.{ColourLabel}
 

@@ -9,7 +9,7 @@ use lib.ListN.{length, getD}
 use Rattle.refusal.specs.Rules.{Rule, rule, first}
 use Rattle.refusal.specs.declared.Check.{Check}
 use Rattle.refusal.specs.declared.Check.the-variants as check
-use Rattle.planes.specs.Plane.{zeros}
+use Rattle.tables.specs.Table.{zeros}
 use Rattle.nclx.specs.declared.ColourLabel.{ColourLabel}
 use Rattle.nclx.specs.declared.LabelRead.{LabelRead}
 use Rattle.nclx.specs.declared.LabelRead.the-variants as read

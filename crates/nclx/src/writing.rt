@@ -2,7 +2,7 @@
 ghost use mathlib.Core.Path.{_≡_};
 ghost use lib.ListN.{length};
 ghost use Rattle.refusal.specs.Rules.{first};
-ghost use Rattle.planes.specs.Plane.{tab};
+ghost use Rattle.tables.specs.Table.{tab};
 ghost use Rattle.nclx.specs.Record.{byteAt, rangeOf, recordOf, writeRules, writtenInto};
 use crate::ColourLabel;
 use crate::FLAG;

@@ -4,9 +4,9 @@ use Prim.Native.Nat.{ℕ, _+_, _-_, _≤_, _<_}
 use native.Mathlib.Omega.{arith}
 use lib.ListN.{length, getD}
 use Rattle.sample.specs.declared.Pixel.{Pixel}
+use Rattle.tables.proofs.Tables.{part-at, part-width}
 use Rattle.scan.specs.First.{RunFine}
 use Rattle.planes.specs.Sizes.{Long}
-use Rattle.planes.proofs.Tables.{part-at, part-width}
 use Rattle.convert.specs.Row.{rowPart}
 use Rattle.paint.specs.Paint.{FineParts}
 

@@ -5,9 +5,9 @@ use native.Mathlib.Omega.{arith}
 use borrow.Author.Count.{below-none}
 use lib.ListN.{length}
 use Rattle.sample.specs.declared.Pixel.{Pixel}
+use Rattle.tables.proofs.Tables.{part-width}
 use Rattle.planes.specs.Picture.{Picture, pixelOf, EveryPixel}
 use Rattle.planes.specs.Sizes.{Long}
-use Rattle.planes.proofs.Tables.{part-width}
 use Rattle.convert.specs.Row.{rowPart, OneWidth}
 
 -- six parts of one width

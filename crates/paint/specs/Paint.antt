@@ -4,8 +4,8 @@ use mathlib.Core.Bool.{Bool, true}
 use mathlib.Core.List.{List}
 use Prim.Native.Nat.{ℕ, _+_}
 use Rattle.sample.specs.declared.Pixel.{Pixel}
+use Rattle.tables.specs.Table.{patched}
 use Rattle.planes.specs.Picture.{Picture, picture}
-use Rattle.planes.specs.Plane.{patched}
 use Rattle.planes.specs.Sizes.{layout}
 use Rattle.planes.specs.declared.size.Layout.{Layout}
 use Rattle.scan.specs.First.{NotAbove, Tells}

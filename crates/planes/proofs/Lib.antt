@@ -1,6 +1,6 @@
 -- Laws of sizes and of planes.
 pub mod SizeLaws
 pub mod SizeTheorems
-pub mod Tables
+pub mod Parts
 pub mod Painted
 pub mod PlaneTheorems

@@ -11,10 +11,11 @@ use borrow.Author.Tests.{lt-ltb, le-ltb}
 use lib.Dec.{ltb}
 use lib.ListN.{length, take}
 use lib.Seq.{take-all}
+use Rattle.tables.specs.Table.{tab, zeros, patched, cleared}
+use Rattle.tables.proofs.Tables.{length-tab, tab-same, patched-length, patched-more}
 use Rattle.planes.specs.Sizes.{needed, RowStart}
-use Rattle.planes.specs.Plane.{tab, zeros, cell, planeOf, patched, cleared}
+use Rattle.planes.specs.Plane.{cell, planeOf}
 use Rattle.sample.proofs.Choices.{below-or-not}
-use Rattle.planes.proofs.Tables.{length-tab, tab-same, patched-length, patched-more}
 
 -- row j and column i of the element j · stride + i
 module _ (stride j i : ℕ) (l : i < stride) where

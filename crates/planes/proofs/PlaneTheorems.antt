@@ -9,9 +9,9 @@ use borrow.Author.Tests.{ltb-true}
 use lib.Dec.{ltb}
 use lib.ListN.{length, getD}
 use Rattle.sample.proofs.Choices.{both-true, cannot}
+use Rattle.tables.proofs.Tables.{length-tab, tab-at, tab-same}
 use Rattle.planes.specs.Plane.{cell, planeOf, sampleAt, SamePicture}
 use Rattle.planes.specs.Picture.{Picture, picture, pixelOf}
-use Rattle.planes.proofs.Tables.{length-tab, tab-at, tab-same}
 use Rattle.planes.proofs.Painted.{cell-in}
 
 -- what is chosen where a test holds matters there alone

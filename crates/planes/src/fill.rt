@@ -2,8 +2,8 @@
 ghost use mathlib.Core.Path.{_≡_};
 ghost use Prim.Native.Nat.{_≤_};
 ghost use lib.ListN.{length};
+ghost use Rattle.tables.specs.Table.{zeros, cleared};
 ghost use Rattle.planes.specs.Sizes.{Long};
-ghost use Rattle.planes.specs.Plane.{zeros, cleared};
 
 // Every element becomes 0.
 fn zero_all(out: &mut [u16])

@@ -5,13 +5,13 @@ use Prim.Native.Nat.{ℕ, zero, suc, _+_, _*_, _-_, _≤_, _<_}
 use native.Mathlib.Omega.{arith}
 use lib.ListN.{length, getD}
 use Rattle.refusal.specs.Rules.{NoneApplies}
+use Rattle.tables.proofs.Tables.{length-tab, tab-at}
 use Rattle.planes.specs.Picture.{Picture, picture, planeAt, pixelOf, sampleOf}
 use Rattle.planes.specs.Plane.{sampleAt}
 use Rattle.planes.specs.Sizes.{needed, Fits}
 use Rattle.planes.specs.declared.size.Layout.{Layout}
 use Rattle.planes.proofs.PlaneTheorems.{plane-length, plane-inside, plane-outside}
 use Rattle.planes.proofs.SizeLaws.{index-inside}
-use Rattle.planes.proofs.Tables.{length-tab, tab-at}
 use Rattle.setting.specs.Rules.{served}
 use Rattle.setting.specs.declared.Call.the-variants as call
 use Rattle.setting.specs.declared.Setting.{Setting}

@@ -11,7 +11,7 @@ use Rattle.refusal.specs.declared.Check.{Check}
 use Rattle.refusal.specs.declared.Check.the-variants as check
 use Rattle.refusal.specs.declared.Refusal.{Refusal}
 use Rattle.refusal.proofs.RuleLaws.{EveryRule, first-has, never-both, same-refusal, refused-exactly, passed-exactly}
-use Rattle.planes.specs.Plane.{zeros}
+use Rattle.tables.specs.Table.{zeros}
 use Rattle.nclx.specs.Record.{wrongLength, recordRules, labelIn, CodesFit, Sound, readBy, labelRead, codeBytes, rangeOf, recordOf, writeRules, writtenInto}
 use Rattle.nclx.specs.Choice.{containerRules, choiceBy, choice, lastSeven, chosenPart, chosenNumber}
 use Rattle.nclx.specs.declared.ColourLabel.{ColourLabel}

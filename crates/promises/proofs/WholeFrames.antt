@@ -10,8 +10,9 @@ use Rattle.sample.specs.Depth.{isDepth, areDepths, atMost}
 use Rattle.refusal.specs.Rules.{first, at, numbered, badAt}
 use Rattle.refusal.specs.declared.Place.{Place}
 use Rattle.refusal.specs.declared.Refusal.{Refusal}
+use Rattle.tables.specs.Table.{tab}
 use Rattle.scan.specs.First.{orFound, firstOf, placeIf, placeInRow, firstPlace, badSample}
-use Rattle.planes.specs.Plane.{tab, cell, planeOf}
+use Rattle.planes.specs.Plane.{cell, planeOf}
 use Rattle.planes.specs.Sizes.{layout, outside, someLayout, sizeOutside, anyShort, layoutShort}
 use Rattle.planes.specs.declared.size.Layout.{Layout}
 use Rattle.ycgco.specs.YCgCo.{losslessForward, losslessReverse}

@@ -9,7 +9,7 @@ use Rattle.refusal.specs.Rules.{FirstIs, NoneApplies}
 use Rattle.refusal.specs.declared.Check.{Check}
 use Rattle.refusal.specs.declared.Check.the-variants as check
 use Rattle.refusal.specs.declared.Refusal.{Refusal}
-use Rattle.planes.specs.Plane.{zeros}
+use Rattle.tables.specs.Table.{zeros}
 use Rattle.nclx.specs.Record.{recordBytes, recordRules, CodesFit, labelRead, recordOf, writeRules}
 use Rattle.nclx.specs.Choice.{containerRules, partBytes}
 use Rattle.nclx.specs.declared.ColourLabel.{ColourLabel}

@@ -10,12 +10,13 @@ use lib.ListN.{length, getD, take, drop}
 use Rattle.sample.proofs.Choices.{chose-first, chose-second}
 use Rattle.refusal.specs.Rules.{at}
 use Rattle.refusal.specs.declared.Place.{Place}
+use Rattle.tables.proofs.Tables.{part-length, part-at}
 use Rattle.scan.specs.First.{orFound, firstOf, placeIf, placeInRow, firstPlace, withSample, IsFirstPlace, largestOf, RunFine, Tells}
 use Rattle.scan.specs.declared.Bad.the-variants as bad
 use Rattle.scan.specs.declared.Found.{Found}
 use Rattle.scan.specs.declared.Found.the-variants.{At, Nothing}
 use Rattle.planes.specs.Plane.{sampleAt}
-use Rattle.planes.proofs.Tables.{part-length, part-at, part-sample}
+use Rattle.planes.proofs.Parts.{part-sample}
 
 -- ---- answers
 

@@ -4,7 +4,7 @@ use Prim.Native.Nat.{_≤_, _-_}
 use native.Mathlib.Omega.{arith}
 use lib.ListN.{length}
 use borrow.Author.Needs.{needs}
-use Rattle.planes.proofs.Tables.{Filled, filled-none, filled-more, filled-all}
+use Rattle.tables.proofs.Tables.{Filled, filled-none, filled-more, filled-all}
 use Rattle.case_words.specs.Lines.{oldSample}
 use Rattle.case_words.proofs.old_contents.Statement.{statement}
 use Rattle.case_words.proofs.old_contents.Tie as tie

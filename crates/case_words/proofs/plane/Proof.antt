@@ -8,8 +8,8 @@ use denote.Ref.{now}
 use lib.ListN.{length as size, take, drop, set, take-append-drop}
 use lib.Seq.{drop-drop, drop-set-lt}
 use borrow.Author.Needs.{needs}
-use Rattle.planes.specs.Plane.{tab}
-use Rattle.planes.proofs.Tables.{Filled, filled-none, filled-more}
+use Rattle.tables.specs.Table.{tab}
+use Rattle.tables.proofs.Tables.{Filled, filled-none, filled-more}
 use Rattle.request.specs.Form.{largestSample}
 use Rattle.case_words.specs.Lines.{stepAt, positionAfter, sampleAfter, planeAt, planeOver}
 use Rattle.case_words.specs.declared.Step.{Step}

@@ -4,7 +4,7 @@ use native.Mathlib.Omega.{arith}
 use borrow.Author.Needs.{needs}
 use lib.ListN.{length, take}
 use lib.Seq.{length-take-le}
-use Rattle.planes.proofs.Tables.{part-width}
+use Rattle.tables.proofs.Tables.{part-width}
 use Rattle.convert.specs.Row.{rowPart}
 use Rattle.compare.specs.Compare.{rowsDiffer, Compared}
 use Rattle.compare.proofs.compare_part.Statement.{statement}

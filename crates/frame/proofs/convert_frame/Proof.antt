@@ -3,7 +3,7 @@
 use mathlib.Core.Path.{_≡_, sym, ap, _∙_}
 use borrow.Author.Needs.{needs}
 use lib.ListN.{length}
-use Rattle.planes.specs.Plane.{zeros}
+use Rattle.tables.specs.Table.{zeros}
 use Rattle.admit.proofs.LetIn.{FrameSized, paintable}
 use Rattle.paint.specs.Paint.{inputPicture, outputLayout}
 use Rattle.frame.specs.Frame.{frameBy, FrameAfter}

@@ -5,7 +5,7 @@ use mathlib.Core.Bool.{true≢false}
 use Prim.Native.Nat.{_+_}
 use borrow.Author.Needs.{needs}
 use borrow.Author.Tests.{not-true, not-false}
-use Rattle.planes.specs.Plane.{patched}
+use Rattle.tables.specs.Table.{patched}
 use Rattle.scan.proofs.Searches.{yes, no}
 use Rattle.paint.proofs.RowLaws.{parts-one-width}
 use Rattle.paint.proofs.paint_row.Statement.{statement}

@@ -5,9 +5,9 @@ use native.Mathlib.Omega.{arith}
 use borrow.Author.Needs.{needs}
 use lib.ListN.{length, take, drop}
 use Rattle.sample.specs.declared.Pixel.{Pixel}
+use Rattle.tables.proofs.Tables.{part-width}
 use Rattle.scan.specs.First.{largestPixel}
 use Rattle.scan.proofs.Searches.{yes, no, run-within, run-past}
-use Rattle.planes.proofs.Tables.{part-width}
 use Rattle.scan.proofs.runs_fine.Statement.{statement}
 use Rattle.scan.proofs.runs_fine.Tie as tie
 

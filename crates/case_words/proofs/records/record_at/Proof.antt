@@ -2,7 +2,7 @@
 use mathlib.Core.Path.{_≡_, ap, _∙_}
 use borrow.Author.Needs.{needs}
 use lib.ListN.{length}
-use Rattle.planes.specs.Plane.{tab}
+use Rattle.tables.specs.Table.{tab}
 use Rattle.case_words.specs.Lines.{lowByte, recordOver}
 use Rattle.case_words.proofs.records.record_at.Statement.{statement}
 use Rattle.case_words.proofs.records.record_at.Tie as tie

@@ -4,7 +4,7 @@ use Prim.Native.Nat.{_≤_, _-_}
 use native.Mathlib.Omega.{arith}
 use borrow.Author.Needs.{needs}
 use lib.ListN.{length, getD}
-use Rattle.planes.proofs.Tables.{Filled, filled-none, filled-more, filled-all}
+use Rattle.tables.proofs.Tables.{Filled, filled-none, filled-more, filled-all}
 use Rattle.convert.proofs.RowLaws.{row-itself}
 use Rattle.convert.proofs.each.copy.Statement.{statement}
 use Rattle.convert.proofs.each.copy.Tie as tie

@@ -1,7 +1,7 @@
 -- `image_check::passing::run_comes_back` meets its contract: the three parts that are lent have one width.
 use mathlib.Core.Path.{sym, _∙_}
 use borrow.Author.Needs.{needs}
-use Rattle.planes.proofs.Tables.{part-width}
+use Rattle.tables.proofs.Tables.{part-width}
 use Rattle.image_check.proofs.passing.run_comes_back.Statement.{statement}
 use Rattle.image_check.proofs.passing.run_comes_back.Tie as tie
 

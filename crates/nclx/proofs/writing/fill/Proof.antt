@@ -4,7 +4,7 @@ use Prim.Native.Nat.{_≤_, _-_}
 use native.Mathlib.Omega.{arith}
 use borrow.Author.Needs.{needs}
 use lib.ListN.{length}
-use Rattle.planes.proofs.Tables.{Filled, filled-none, filled-more, filled-all}
+use Rattle.tables.proofs.Tables.{Filled, filled-none, filled-more, filled-all}
 use Rattle.nclx.specs.Record.{byteAt}
 use Rattle.nclx.proofs.writing.fill.Statement.{statement}
 use Rattle.nclx.proofs.writing.fill.Tie as tie

@@ -9,7 +9,7 @@ use Rattle.refusal.specs.Rules.{first, numbered}
 use Rattle.refusal.specs.declared.Check.{Check}
 use Rattle.refusal.specs.declared.Check.the-variants.{Passed, Refused}
 use Rattle.refusal.specs.declared.Refusal.{Refusal}
-use Rattle.planes.specs.Plane.{tab}
+use Rattle.tables.specs.Table.{tab}
 use Rattle.nclx.specs.Record.{recordBytes, byteAt, wrongLength, recordOf, writeRules, writtenInto}
 use Rattle.nclx.specs.declared.ColourLabel.{ColourLabel}
 use Rattle.nclx.proofs.RecordLaws.{table-of}

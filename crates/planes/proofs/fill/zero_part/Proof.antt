@@ -2,8 +2,8 @@
 use mathlib.Core.Path.{ap, _∙_}
 use native.Mathlib.Omega.{arith}
 use borrow.Author.Needs.{needs}
-use Rattle.planes.specs.Plane.{zeros, patched}
-use Rattle.planes.proofs.Tables.{part-length}
+use Rattle.tables.specs.Table.{zeros, patched}
+use Rattle.tables.proofs.Tables.{part-length}
 use Rattle.planes.proofs.fill.zero_part.Statement.{statement}
 use Rattle.planes.proofs.fill.zero_part.Tie as tie
 

@@ -1,14 +1,14 @@
--- Laws of tables: a table is what a loop that stores f i at i leaves, and what a plane written part by part becomes.
+-- Laws of tables: a table is what a loop that stores f i at i leaves, and what a list written part by part becomes.
 use mathlib.Core.Path.{_≡_, refl, sym, ap, _∙_}
 use mathlib.Core.List.{List, [], _∷_, _++_, append-assoc, append-nil}
 use mathlib.Core.Logic.{_⊎_, inl, inr, ⊎-elim}
-use Prim.Native.Nat.{ℕ, zero, suc, _+_, _*_, _-_, _≤_, _<_}
+use Prim.Native.Nat.{ℕ, zero, suc, _+_, _-_, _≤_, _<_}
 use native.Mathlib.Nat.{add-zero, add-suc, eq-or-lt-of-le, le-of-suc-le-suc, not-suc-le-zero}
 use native.Mathlib.Numerals.{add-one}
 use native.Mathlib.Omega.{arith}
 use lib.ListN.{length, getD, take, drop, set, length-append, length-set, length-take, length-drop, List·getD-append}
 use lib.Seq.{take-suc-set, take-all, take-at, getD-at, getD-take, getD-drop}
-use Rattle.planes.specs.Plane.{tab, sampleAt, patched}
+use Rattle.tables.specs.Table.{tab, patched}
 
 pub length-tab : (n : ℕ) (f : ℕ → ℕ) → length (tab n f) ≡ n
 unfolding tab
@@ -60,11 +60,7 @@ part-length y a e h k = simp (length-take, length-drop) (omega arith)
 pub part-at : (y : List ℕ) (a e i : ℕ) → i < e - a → getD (take (e - a) (drop a y)) i 0 ≡ getD y (a + i) 0
 part-at y a e i h = rw (getD-take, getD-drop)
 
--- of an input plane: where element k of the part is the sample of row j and column i, and how wide the part is that n elements from s make
-pub part-sample : (p : List ℕ) (stride j i s e k : ℕ) → s + k ≡ j * stride + i → k < e - s
-    → getD (take (e - s) (drop s p)) k 0 ≡ sampleAt p stride j i
-part-sample p stride j i s e k q h = rw (← q) (part-at p s e k h)
-
+-- how wide the part is that n elements from s make
 pub part-width : (p : List ℕ) (s n : ℕ) → s + n ≤ length p → length (take (s + n - s) (drop s p)) ≡ n
 part-width p s n h = omega (arith, part-length p s (s + n) (omega arith) h)
 

@@ -1,0 +1,2 @@
+-- Laws of lists by what stands at each index.
+pub mod Tables

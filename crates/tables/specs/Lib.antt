@@ -1,0 +1,2 @@
+-- Lists by what stands at each index.
+pub mod Table
