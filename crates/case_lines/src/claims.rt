@@ -1,12 +1,12 @@
 // Cases on what is claimed of a frame: three planes more, judged by the box.
 ghost use mathlib.Core.Path.{_≡_};
-ghost use Rattle.paint.specs.Paint.{inputPicture, outputPicture};
+ghost use Rattle.rows.specs.Paint.{inputPicture, outputPicture};
 ghost use Rattle.judge.specs.Judge.{judgement};
 use crate::pictures::ROOM;
 use case_words::plane;
 use corkplover::judging;
 use judge::Judgement;
-use paint::Size;
+use rows::paint::Size;
 use setting::Setting;
 use setting::Way;
 

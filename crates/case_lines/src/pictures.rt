@@ -1,6 +1,6 @@
 // Cases on whole frames and on images, by their words from the edition on.
 ghost use lib.ListN.{length};
-ghost use Rattle.paint.specs.Paint.{inputPicture, outputLayout};
+ghost use Rattle.rows.specs.Paint.{inputPicture, outputLayout};
 ghost use Rattle.frame.specs.Frame.{PlanesAfter, FrameAfter};
 use crate::claims;
 use case_words::GAP;
@@ -11,8 +11,8 @@ use case_words::plane;
 use case_words::size_at;
 use corkplover::frames;
 use frame::FrameAnswer;
-use paint::Size;
 use request::form;
+use rows::paint::Size;
 use setting::Setting;
 use setting::Way;
 use text::reading;

@@ -6,7 +6,7 @@ use denote.Ref.{now}
 use lib.ListN.{length}
 use Rattle.setting.specs.declared.Way.the-variants.{Forward, Reverse}
 use Rattle.planes.specs.Picture.{picture}
-use Rattle.paint.specs.Paint.{inputPicture, outputPicture, outputLayout}
+use Rattle.rows.specs.Paint.{inputPicture, outputPicture, outputLayout}
 use Rattle.frame.specs.Frame.{FrameAfter}
 use Rattle.image_check.specs.Image.{imageAnswer}
 use Rattle.judge.specs.Judge.{judgement}

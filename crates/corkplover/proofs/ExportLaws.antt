@@ -10,8 +10,8 @@ use Rattle.setting.specs.declared.Way.{Way}
 use Rattle.meter.specs.declared.PixelLevels.{PixelLevels}
 use Rattle.meter.specs.declared.SampleKind.{SampleKind}
 use Rattle.planes.specs.Picture.{Picture}
-use Rattle.paint.specs.Paint.{inputPicture, outputPicture}
-use Rattle.paint.specs.declared.Size.{Size}
+use Rattle.rows.specs.Paint.{inputPicture, outputPicture}
+use Rattle.rows.specs.declared.paint.Size.{Size}
 use Rattle.image_check.specs.Image.{imageAnswer}
 use Rattle.image_check.specs.declared.ImageAnswer.{ImageAnswer}
 use Rattle.judge.specs.Judge.{judgement}

@@ -5,8 +5,8 @@ use Prim.Native.Nat.{ℕ}
 use lib.ListN.{length}
 use Rattle.setting.specs.declared.Setting.{Setting}
 use Rattle.setting.specs.declared.Way.{Way}
-use Rattle.paint.specs.Paint.{inputPicture, outputLayout}
-use Rattle.paint.specs.declared.Size.{Size}
+use Rattle.rows.specs.Paint.{inputPicture, outputLayout}
+use Rattle.rows.specs.declared.paint.Size.{Size}
 use Rattle.frame.specs.Frame.{frameAnswer, outPlane}
 use Rattle.frame.specs.declared.FrameAnswer.{FrameAnswer}
 use Rattle.corkplover.specs.Packing.{packedFrame}

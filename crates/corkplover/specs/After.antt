@@ -8,8 +8,8 @@ use Rattle.sample.specs.declared.Pixel.{Pixel}
 use Rattle.setting.specs.declared.Setting.{Setting}
 use Rattle.meter.specs.declared.SampleKind.{SampleKind}
 use Rattle.setting.specs.declared.Way.{Way}
-use Rattle.paint.specs.Paint.{inputPicture, outputPicture, outputLayout}
-use Rattle.paint.specs.declared.Size.{Size}
+use Rattle.rows.specs.Paint.{inputPicture, outputPicture, outputLayout}
+use Rattle.rows.specs.declared.paint.Size.{Size}
 use Rattle.frame.specs.Frame.{frameAnswer, PlanesAfter}
 use Rattle.judge.specs.Judge.{judgement}
 use Rattle.corkplover.specs.Answers.{reading, levelsAnswer}

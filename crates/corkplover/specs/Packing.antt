@@ -12,7 +12,7 @@ use Rattle.meter.specs.declared.PixelLevels.{PixelLevels}
 use Rattle.refusal.specs.declared.Refusal.{Refusal}
 use Rattle.codes.specs.Label.{labelNumber}
 use Rattle.setting.specs.declared.Setting.{Setting}
-use Rattle.paint.specs.declared.Size.{Size}
+use Rattle.rows.specs.declared.paint.Size.{Size}
 use Rattle.frame.specs.declared.FrameAnswer.{FrameAnswer}
 use Rattle.frame.specs.declared.FrameAnswer.the-variants as frame
 use Rattle.image_check.specs.declared.ImageAnswer.{ImageAnswer}

@@ -2,13 +2,13 @@
 ghost use mathlib.Core.Path.{_≡_};
 ghost use lib.ListN.{length};
 ghost use Rattle.setting.specs.declared.Way.the-variants.{Forward, Reverse};
-ghost use Rattle.paint.specs.Paint.{inputPicture, outputLayout};
+ghost use Rattle.rows.specs.Paint.{inputPicture, outputLayout};
 ghost use Rattle.frame.specs.Frame.{FrameAfter};
 ghost use Rattle.image_check.specs.Image.{imageAnswer};
 ghost use Rattle.planes.specs.Picture.{picture};
 use frame::FrameAnswer;
 use image_check::ImageAnswer;
-use paint::Size;
+use rows::paint::Size;
 use setting::Setting;
 use setting::Way;
 

@@ -2,10 +2,10 @@
 // read. A size's output stride is the claimed planes'.
 ghost use mathlib.Core.Path.{_≡_};
 ghost use Rattle.setting.specs.declared.Way.the-variants.{Forward, Reverse};
-ghost use Rattle.paint.specs.Paint.{inputPicture, outputPicture};
+ghost use Rattle.rows.specs.Paint.{inputPicture, outputPicture};
 ghost use Rattle.judge.specs.Judge.{judgement};
 use judge::Judgement;
-use paint::Size;
+use rows::paint::Size;
 use setting::Setting;
 use setting::Way;
 

@@ -11,8 +11,8 @@ use frame::FrameAnswer;
 use image_check::ImageAnswer;
 use judge::Judgement;
 use meter::PixelLevels;
-use paint::Size;
 use refusal::Refusal;
+use rows::paint::Size;
 use sample::Pixel;
 use setting::Setting;
 

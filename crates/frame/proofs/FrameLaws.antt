@@ -25,7 +25,7 @@ use Rattle.row_plan.specs.declared.RowPlan.{RowPlan}
 use Rattle.admit.specs.Rules.{sizedAdmission, frameAdmission}
 use Rattle.admit.proofs.AdmitLaws.{still-refused}
 use Rattle.admit.proofs.LetIn.{FrameSized, Inside, let-in, not-let-in}
-use Rattle.paint.proofs.TopLaws.{tells-inside}
+use Rattle.rows.proofs.TopLaws.{tells-inside}
 use Rattle.frame.specs.Frame.{frameBy, frameAnswer, mappedPlane, convertedPlane, lengthOf, outPlane, FrameAfter, MappedPlanes, PaintedIf, ConvertedIf}
 use Rattle.frame.specs.declared.FrameAnswer.the-variants.{Done, Refused}
 

@@ -17,8 +17,8 @@ use Rattle.planes.proofs.Painted.{Progress, progress-none, progress-more, Paint
 use Rattle.planes.proofs.SizeLaws.{index-inside, needed-whole}
 use Rattle.convert.specs.Row.{rowPart, EveryOf}
 use Rattle.convert.proofs.RunLaws.{Run, row-run, whole-run, run-pixel, pixel-of-part, run-of-every}
-use Rattle.paint.specs.Paint.{mappedPart, RowsPut}
-use Rattle.paint.proofs.RowLaws.{Seen}
+use Rattle.rows.specs.Paint.{mappedPart, RowsPut}
+use Rattle.rows.proofs.RowLaws.{Seen}
 use Rattle.frame.specs.Frame.{mappedSample, mappedPlane, lengthOf, MappedPlanes}
 
 -- the first j rows of plane k are painted, as f makes them

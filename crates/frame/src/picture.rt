@@ -4,12 +4,12 @@ ghost use lib.ListN.{length};
 ghost use Rattle.planes.specs.Picture.{picture, layoutOf};
 ghost use Rattle.planes.specs.Sizes.{layout, Fits};
 ghost use Rattle.row_plan.specs.RowPlan.{rowPlanned, RowRoomy};
-ghost use Rattle.paint.specs.Paint.{inputPicture, outputLayout, TakesUpTo};
+ghost use Rattle.rows.specs.Paint.{inputPicture, outputLayout, TakesUpTo};
 ghost use Rattle.frame.specs.Frame.{PaintedIf};
-use paint::Size;
-use paint::paint_row;
 use planes::size::row_start;
 use row_plan::RowPlan;
+use rows::paint::Size;
+use rows::paint::paint_row;
 use sample::Pixel;
 
 // Row by row, with zeros between them and after them.

@@ -23,7 +23,7 @@ use Rattle.compare.specs.Compare.{differ}
 use Rattle.admit.specs.Rules.{sizedAdmission, frameAdmission}
 use Rattle.admit.proofs.AdmitLaws.{still-refused}
 use Rattle.admit.proofs.LetIn.{FrameSized, let-in}
-use Rattle.paint.proofs.TopLaws.{tells-inside}
+use Rattle.rows.proofs.TopLaws.{tells-inside}
 use Rattle.judge.specs.Judge.{isWrong, firstWrong, countWrong, verdict, judgeBy, judgement, PictureTold, JudgedIf}
 use Rattle.judge.specs.declared.Judgement.the-variants.{Refused}
 use Rattle.judge.specs.declared.picture.Told.{Told}

@@ -20,7 +20,7 @@ use Rattle.compare.specs.Count.{countOf, countPlaces, FirstAt}
 use Rattle.compare.specs.Compare.{differ, Compared}
 use Rattle.compare.specs.declared.Tally.{Tally}
 use Rattle.compare.proofs.CompareLaws.{compared-same}
-use Rattle.paint.proofs.RowLaws.{Seen, seen-none, seen-all}
+use Rattle.rows.proofs.RowLaws.{Seen, seen-none, seen-all}
 use Rattle.judge.specs.Judge.{mostRun, isWrong, orRow, foundIn, runWrong, RunTold, PictureTold}
 use Rattle.judge.proofs.PlaceLaws.{places-none, places-most, row-first, row-counted, all-counted, all-first}
 

@@ -21,9 +21,9 @@ use Rattle.compare.specs.Compare.{differ, rowsDiffer, Compared}
 use Rattle.compare.specs.declared.Tally.{Tally}
 use Rattle.compare.proofs.CountLaws.{count-none, count-parts, count-same, first-none, first-part, first-kept}
 use Rattle.compare.proofs.CompareLaws.{first-same}
-use Rattle.paint.specs.Paint.{mappedPart, FineParts, RowsPut}
-use Rattle.paint.proofs.FineLaws as paint
-use Rattle.paint.proofs.FineLaws.{first-fine, second-fine, third-fine}
+use Rattle.rows.specs.Paint.{mappedPart, FineParts, RowsPut}
+use Rattle.rows.proofs.FineLaws as rows
+use Rattle.rows.proofs.FineLaws.{first-fine, second-fine, third-fine}
 use Rattle.judge.specs.Judge.{runWrong, RunTold}
 
 -- ---- a part
@@ -64,7 +64,7 @@ tells-runs tops from n a0 a1 a2 long r t = (
   λ e.
       let h = t .0 e in
       (first-fine tops from n a0 a1 a2 long h, (second-fine tops from n a0 a1 a2 long h, third-fine tops from n a0 a1 a2 long h)),
-  λ e h. t .1 e (paint.fine-parts tops from n a0 a1 a2 long (h .0) (h .1 .0) (h .1 .1)),
+  λ e h. t .1 e (rows.fine-parts tops from n a0 a1 a2 long (h .0) (h .1 .0) (h .1 .1)),
 )
 
 -- ---- a run

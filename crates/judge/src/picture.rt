@@ -4,13 +4,13 @@ ghost use Prim.Native.Nat.{_*_, _<_, _≤_};
 ghost use Rattle.planes.specs.Picture.{picture, layoutOf};
 ghost use Rattle.planes.specs.Sizes.{Fits, mostSize};
 ghost use Rattle.row_plan.specs.RowPlan.{rowPlanned, RowRoomy};
-ghost use Rattle.paint.specs.Paint.{inputPicture, outputPicture, TakesUpTo};
+ghost use Rattle.rows.specs.Paint.{inputPicture, outputPicture, TakesUpTo};
 ghost use Rattle.judge.specs.Judge.{orRow, foundIn, PictureTold};
 use crate::run::tally_run;
-use paint::Size;
 use planes::size::row_start;
 use refusal::Place;
 use row_plan::RowPlan;
+use rows::paint::Size;
 use sample::Pixel;
 use scan::Found;
 

@@ -6,12 +6,12 @@ ghost use lib.ListN.{length};
 ghost use Rattle.planes.specs.Sizes.{Long};
 ghost use Rattle.row_plan.specs.RowPlan.{rowPlanned, RowRoomy};
 ghost use Rattle.compare.specs.Compare.{mostPart};
-ghost use Rattle.paint.specs.Paint.{TakesUpTo};
+ghost use Rattle.rows.specs.Paint.{TakesUpTo};
 ghost use Rattle.judge.specs.Judge.{mostRun, PartTold, RunTold};
 use compare::Tally;
 use compare::compare_part;
-use paint::paint_row;
 use row_plan::RowPlan;
+use rows::paint::paint_row;
 use sample::Pixel;
 
 // How many pixels are converted before they are compared: few enough to stay in the nearest cache, and to be counted in 16 bits.

@@ -22,8 +22,8 @@ use Rattle.plan.specs.Conversion.{convert}
 use Rattle.plan.proofs.ConversionTheorems.{trip, one-to-one, forward-inside}
 use Rattle.admit.specs.Rules.{pictureRules}
 use Rattle.admit.proofs.Accepted.{PictureAccepted, all-fit, pixels-inside, inside-exactly}
-use Rattle.paint.specs.Paint.{inputPicture, outputPicture, outputLayout}
-use Rattle.paint.specs.declared.Size.{Size}
+use Rattle.rows.specs.Paint.{inputPicture, outputPicture, outputLayout}
+use Rattle.rows.specs.declared.paint.Size.{Size}
 use Rattle.corkplover.specs.Meaning.{Meaning}
 use Rattle.promises.specs.Frames.{ConvertsFrame, ConvertsPlanes, HandedOn, SamePixels}
 use Rattle.promises.specs.Lossless.{Listed}

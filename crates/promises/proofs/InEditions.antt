@@ -9,7 +9,7 @@ use Rattle.setting.specs.declared.Way.{Way}
 use Rattle.setting.specs.declared.Way.the-variants.{Forward, Reverse}
 use Rattle.planes.specs.Picture.{Picture, picture}
 use Rattle.planes.specs.declared.size.Layout.{Layout}
-use Rattle.paint.specs.Paint.{inputPicture, outputLayout}
+use Rattle.rows.specs.Paint.{inputPicture, outputLayout}
 use Rattle.frame.specs.Frame.{FrameAfter}
 use Rattle.frame.specs.declared.FrameAnswer.{FrameAnswer}
 use Rattle.corkplover.specs.Meaning.{meaningOfPixel, meaningOfSource, meaningOfReading, meaningOfLevels, meaningOfFrame, meaningOfImage, meaningOfJudgement}

@@ -13,8 +13,8 @@ use Rattle.setting.specs.declared.Way.the-variants.{Forward, Reverse}
 use Rattle.meter.specs.declared.SampleKind.{SampleKind}
 use Rattle.meter.specs.declared.SampleKind.the-variants.{Y, Cb, Cr}
 use Rattle.planes.specs.Picture.{picture}
-use Rattle.paint.specs.Paint.{inputPicture, outputPicture, outputLayout}
-use Rattle.paint.specs.declared.Size.{Size}
+use Rattle.rows.specs.Paint.{inputPicture, outputPicture, outputLayout}
+use Rattle.rows.specs.declared.paint.Size.{Size}
 use Rattle.image_check.specs.Image.{imageAnswer}
 use Rattle.corkplover.specs.After.{ReadingAfter, LevelsAfter, FrameExportAfter, JudgementAfter}
 use Rattle.corkplover.specs.Answers.{pixelAnswer}

@@ -6,8 +6,8 @@ use Prim.Native.Nat.{ℕ}
 use Rattle.setting.specs.declared.Setting.{Setting}
 use Rattle.setting.specs.declared.Way.{Way}
 use Rattle.setting.specs.declared.Way.the-variants.{Forward, Reverse}
-use Rattle.paint.specs.Paint.{inputPicture, outputPicture}
-use Rattle.paint.specs.declared.Size.{Size}
+use Rattle.rows.specs.Paint.{inputPicture, outputPicture}
+use Rattle.rows.specs.declared.paint.Size.{Size}
 use Rattle.judge.specs.Judge.{judgement}
 use Rattle.corkplover.specs.After.{JudgementAfter}
 use Rattle.corkplover.specs.Meaning.{meaningInFrame, meaningInJudgement}

@@ -27,8 +27,8 @@ use Rattle.plan.proofs.ConversionTheorems.{same-pixel, pixel-same}
 use Rattle.compare.specs.Count.{countPlaces}
 use Rattle.compare.specs.Compare.{differ}
 use Rattle.admit.specs.Rules.{pictureRules}
-use Rattle.paint.specs.Paint.{inputPicture, outputPicture, outputLayout}
-use Rattle.paint.specs.declared.Size.{Size}
+use Rattle.rows.specs.Paint.{inputPicture, outputPicture, outputLayout}
+use Rattle.rows.specs.declared.paint.Size.{Size}
 use Rattle.judge.specs.Judge.{isWrong, firstWrong, countWrong, verdict, judgeBy, judgement}
 use Rattle.judge.proofs.PlaceLaws.{none-wrong, wrong-none, places-same}
 use Rattle.corkplover.specs.Meaning.{Meaning, meaningOfJudgement}

@@ -12,8 +12,8 @@ use Rattle.setting.specs.declared.Way.the-variants.{Forward, Reverse}
 use Rattle.meter.specs.declared.SampleKind.{SampleKind}
 use Rattle.meter.specs.declared.SampleKind.the-variants.{Y, Cb, Cr}
 use Rattle.planes.specs.Picture.{picture}
-use Rattle.paint.specs.Paint.{inputPicture, outputPicture}
-use Rattle.paint.specs.declared.Size.{Size}
+use Rattle.rows.specs.Paint.{inputPicture, outputPicture}
+use Rattle.rows.specs.declared.paint.Size.{Size}
 use Rattle.judge.specs.Judge.{judgement}
 use Rattle.corkplover.specs.After.{ReadingAfter, JudgementAfter}
 use Rattle.corkplover.specs.Answers.{pixelAnswer}

@@ -22,8 +22,8 @@ use Rattle.plan.specs.Conversion.{convert}
 use Rattle.plan.specs.Source.{hasSource}
 use Rattle.compare.specs.Compare.{differ}
 use Rattle.admit.specs.Rules.{pictureAdmission, frameAdmission}
-use Rattle.paint.specs.Paint.{inputPicture, outputLayout}
-use Rattle.paint.specs.declared.Size.{Size}
+use Rattle.rows.specs.Paint.{inputPicture, outputLayout}
+use Rattle.rows.specs.declared.paint.Size.{Size}
 use Rattle.frame.specs.Frame.{frameBy, frameAnswer, planeBy, lengthOf, outPlane, PlanesAfter}
 use Rattle.frame.specs.declared.FrameAnswer.{FrameAnswer}
 use Rattle.image_check.specs.Image.{fails, firstFailing, answerFound, imageBy, imageAnswer}

@@ -5,7 +5,7 @@ use denote.Ref.{now}
 use lib.ListN.{length}
 use Rattle.planes.specs.Sizes.{Fits}
 use Rattle.setting.specs.declared.Way.the-variants.{Forward, Reverse}
-use Rattle.paint.specs.Paint.{inputPicture, outputPicture, outputLayout}
+use Rattle.rows.specs.Paint.{inputPicture, outputPicture, outputLayout}
 use Rattle.corkplover.specs.Meaning.{meaningOfPixel, meaningOfFrame}
 use Rattle.corkplover.proofs.Calls.{image-check-answers, forward-frame-answers, reverse-frame-answers}
 use Rattle.corkplover.proofs.pixels.forward_pixel.Reads as forward-pixel

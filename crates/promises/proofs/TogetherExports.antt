@@ -6,7 +6,7 @@ use lib.ListN.{length}
 use Rattle.planes.specs.Picture.{picture}
 use Rattle.planes.specs.Sizes.{Fits}
 use Rattle.setting.specs.declared.Way.the-variants.{Forward, Reverse}
-use Rattle.paint.specs.Paint.{inputPicture, outputPicture, outputLayout}
+use Rattle.rows.specs.Paint.{inputPicture, outputPicture, outputLayout}
 use Rattle.image_check.specs.Image.{imageAnswer}
 use Rattle.corkplover.specs.Meaning.{meaningInPixel, meaningInFrame}
 use Rattle.corkplover.specs.Packing.{settingIn, pixelFrom, sizes, packedFrame, packedImage}

@@ -13,8 +13,8 @@ use Rattle.planes.specs.Plane.{SamePicture}
 use Rattle.planes.specs.declared.size.Layout.{Layout}
 use Rattle.plan.specs.Conversion.{convert}
 use Rattle.admit.specs.Rules.{pictureRules}
-use Rattle.paint.specs.Paint.{inputPicture, outputPicture, outputLayout}
-use Rattle.paint.specs.declared.Size.{Size}
+use Rattle.rows.specs.Paint.{inputPicture, outputPicture, outputLayout}
+use Rattle.rows.specs.declared.paint.Size.{Size}
 use Rattle.frame.specs.Frame.{lengthOf}
 use Rattle.corkplover.specs.Meaning.{Meaning}
 use Rattle.promises.specs.Refusing.{Refuses, BadIn}

@@ -16,8 +16,8 @@ use Rattle.scan.specs.First.{IsFirstPlace}
 use Rattle.compare.specs.Count.{countPlaces}
 use Rattle.compare.specs.Compare.{differ}
 use Rattle.admit.specs.Rules.{pictureRules}
-use Rattle.paint.specs.Paint.{inputPicture, outputPicture}
-use Rattle.paint.specs.declared.Size.{Size}
+use Rattle.rows.specs.Paint.{inputPicture, outputPicture}
+use Rattle.rows.specs.declared.paint.Size.{Size}
 use Rattle.frame.specs.Frame.{outPlane}
 use Rattle.corkplover.specs.Meaning.{Meaning}
 use Rattle.promises.specs.Frames.{SamePixels}

@@ -1,5 +1,6 @@
 // A row of pixels, converted by a plan for many. The plan is looked at once, and each kind of numbers has a loop of its own.
 mod light_rows;
+pub mod paint;
 mod word_rows;
 
 ghost use Rattle.row_plan.specs.RowPlan.{rowPlanned, RowRoomy, RowTakes};

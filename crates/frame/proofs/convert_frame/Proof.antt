@@ -5,7 +5,7 @@ use borrow.Author.Needs.{needs}
 use lib.ListN.{length}
 use Rattle.tables.specs.Table.{zeros}
 use Rattle.admit.proofs.LetIn.{FrameSized, paintable}
-use Rattle.paint.specs.Paint.{inputPicture, outputLayout}
+use Rattle.rows.specs.Paint.{inputPicture, outputLayout}
 use Rattle.frame.specs.Frame.{frameBy, FrameAfter}
 use Rattle.frame.proofs.FrameLaws.{painted-all, turned-away, refused-first}
 use Rattle.frame.proofs.convert_frame.Statement.{statement}

@@ -5,8 +5,8 @@ use borrow.Author.Needs.{needs}
 use lib.ListN.{length}
 use Rattle.sample.specs.Depth.{tops}
 use Rattle.setting.specs.Call.{inputOf}
-use Rattle.paint.specs.Paint.{inputPicture, outputLayout}
-use Rattle.paint.proofs.TopLaws.{takes-up-to}
+use Rattle.rows.specs.Paint.{inputPicture, outputLayout}
+use Rattle.rows.proofs.TopLaws.{takes-up-to}
 use Rattle.frame.proofs.FrameLaws.{converted-if}
 use Rattle.frame.proofs.painted.Statement.{statement}
 use Rattle.frame.proofs.painted.Tie as tie

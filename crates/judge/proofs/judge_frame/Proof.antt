@@ -3,7 +3,7 @@ use mathlib.Core.Path.{sym, _∙_}
 use borrow.Author.Needs.{needs}
 use Rattle.planes.specs.Picture.{Picture, layoutOf}
 use Rattle.admit.proofs.LetIn.{FrameSized, paintable, not-let-in}
-use Rattle.paint.specs.Paint.{inputPicture, outputPicture}
+use Rattle.rows.specs.Paint.{inputPicture, outputPicture}
 use Rattle.judge.proofs.JudgeLaws.{refused-first, refused-after, told-all}
 use Rattle.judge.proofs.judge_frame.Statement.{statement}
 use Rattle.judge.proofs.judge_frame.Tie as tie

@@ -4,8 +4,8 @@ use mathlib.Core.Path.{_≡_, ap, _∙_}
 use borrow.Author.Needs.{needs}
 use Rattle.sample.specs.Depth.{tops}
 use Rattle.setting.specs.Call.{inputOf}
-use Rattle.paint.specs.Paint.{inputPicture, outputPicture}
-use Rattle.paint.proofs.TopLaws.{takes-up-to}
+use Rattle.rows.specs.Paint.{inputPicture, outputPicture}
+use Rattle.rows.proofs.TopLaws.{takes-up-to}
 use Rattle.judge.proofs.JudgeLaws.{judged-if}
 use Rattle.judge.proofs.judged.Statement.{statement}
 use Rattle.judge.proofs.judged.Tie as tie

@@ -12,8 +12,8 @@ use Rattle.planes.specs.Picture.{picture}
 use Rattle.planes.specs.Sizes.{layout}
 use Rattle.scan.proofs.Searches.{yes, no}
 use Rattle.row_plan.specs.RowPlan.{rowPlanned}
-use Rattle.paint.specs.Paint.{inputPicture, outputLayout}
-use Rattle.paint.proofs.RowLaws.{Seen, seen-none, seen-all}
+use Rattle.rows.specs.Paint.{inputPicture, outputLayout}
+use Rattle.rows.proofs.RowLaws.{Seen, seen-none, seen-all}
 use Rattle.frame.proofs.PaintLaws.{Painting, painting-none, seen-more, Turn, output-long, row-room, row-of-every, painting-more, rest-long, painting-end}
 use Rattle.frame.proofs.picture.paint_rows.Statement.{statement}
 use Rattle.frame.proofs.picture.paint_rows.Tie as tie

@@ -8,7 +8,7 @@ use borrow.Author.Tests.{not-true, not-false}
 use Rattle.planes.specs.Picture.{picture}
 use Rattle.row_plan.specs.RowPlan.{rowPlanned}
 use Rattle.scan.proofs.Searches.{no}
-use Rattle.paint.specs.Paint.{inputPicture, outputPicture}
+use Rattle.rows.specs.Paint.{inputPicture, outputPicture}
 use Rattle.judge.proofs.PictureLaws.{Rows, rows-none, row-beyond, row-told, rows-all, rows-most}
 use Rattle.judge.proofs.picture.tell_rows.Statement.{statement}
 use Rattle.judge.proofs.picture.tell_rows.Tie as tie

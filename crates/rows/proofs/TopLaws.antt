@@ -12,7 +12,7 @@ use Rattle.plan.specs.Conversion.{convert}
 use Rattle.row_plan.specs.RowPlan.{RowPlans}
 use Rattle.row_plan.specs.declared.RowPlan.{RowPlan}
 use Rattle.admit.proofs.Accepted.{inside-of}
-use Rattle.paint.specs.Paint.{TakesUpTo}
+use Rattle.rows.specs.Paint.{TakesUpTo}
 
 module _ (way : Way) (x : Served) {plan : RowPlan} (h : RowPlans (convert way x) (inputOf way) (x .depths) plan) (top : Pixel) (top-is : top ≡ tops (inputOf way) (x .depths)) where
   -- samples that are not above their tops are within depth, and the other way round

@@ -12,7 +12,7 @@ use Rattle.scan.specs.First.{NotAbove, Tells}
 use Rattle.row_plan.specs.RowPlan.{RowTakes}
 use Rattle.row_plan.specs.declared.RowPlan.{RowPlan}
 use Rattle.convert.specs.Row.{rowPart, rowOf, EveryOf}
-use Rattle.paint.specs.declared.Size.{Size}
+use Rattle.rows.specs.declared.paint.Size.{Size}
 
 -- the picture that is read, the one in the planes that are written or claimed, and the layout of these
 abbrev pub inputPicture : Size → List ℕ → List ℕ → List ℕ → Picture

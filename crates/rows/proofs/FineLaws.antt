@@ -8,7 +8,7 @@ use Rattle.tables.proofs.Tables.{part-at, part-width}
 use Rattle.scan.specs.First.{RunFine}
 use Rattle.planes.specs.Sizes.{Long}
 use Rattle.convert.specs.Row.{rowPart}
-use Rattle.paint.specs.Paint.{FineParts}
+use Rattle.rows.specs.Paint.{FineParts}
 
 module _ (tops : Pixel) (from n : ℕ) (a0 a1 a2 : List ℕ) (long : Long (from + n) (length a0) (length a1) (length a2)) where
   at : (p : List ℕ) (k top : ℕ) → k < n → getD p (from + k) 0 ≤ top → getD (rowPart p from n) k 0 ≤ top

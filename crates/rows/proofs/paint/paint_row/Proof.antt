@@ -1,4 +1,4 @@
--- `paint::paint_row` meets its contract: the six parts that are lent have the row's width, their pixels were seen to be within their tops, and
+-- `rows::paint::paint_row` meets its contract: the six parts that are lent have the row's width, their pixels were seen to be within their tops, and
 -- each output part comes back as the converted row.
 use mathlib.Core.Path.{sym, ap}
 use mathlib.Core.Bool.{true≢false}
@@ -7,9 +7,9 @@ use borrow.Author.Needs.{needs}
 use borrow.Author.Tests.{not-true, not-false}
 use Rattle.tables.specs.Table.{patched}
 use Rattle.scan.proofs.Searches.{yes, no}
-use Rattle.paint.proofs.RowLaws.{parts-one-width}
-use Rattle.paint.proofs.paint_row.Statement.{statement}
-use Rattle.paint.proofs.paint_row.Tie as tie
+use Rattle.rows.proofs.RowLaws.{parts-one-width}
+use Rattle.rows.proofs.paint.paint_row.Statement.{statement}
+use Rattle.rows.proofs.paint.paint_row.Tie as tie
 
 convert-row-requires : tie.Need-convert-row-requires
 convert-row-requires c κs =

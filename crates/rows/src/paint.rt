@@ -4,7 +4,7 @@ ghost use lib.ListN.{length};
 ghost use Rattle.scan.specs.First.{Tells};
 ghost use Rattle.planes.specs.Sizes.{Long};
 ghost use Rattle.row_plan.specs.RowPlan.{rowPlanned, RowRoomy};
-ghost use Rattle.paint.specs.Paint.{FineParts, RowsPutIf, TakesUpTo};
+ghost use Rattle.rows.specs.Paint.{FineParts, RowsPutIf, TakesUpTo};
 use row_plan::RowPlan;
 use sample::Pixel;
 
@@ -50,7 +50,7 @@ pub fn paint_row(
     }
     let from_end = from + width;
     let to_end = to + width;
-    rows::convert_row(
+    crate::convert_row(
         plan,
         &a0[from..from_end],
         &a1[from..from_end],

@@ -1,8 +1,8 @@
--- `paint::row_fine` meets its contract: the samples of three parts are those of three runs.
+-- `rows::paint::row_fine` meets its contract: the samples of three parts are those of three runs.
 use borrow.Author.Needs.{needs}
-use Rattle.paint.proofs.FineLaws.{fine-parts, first-fine, second-fine, third-fine}
-use Rattle.paint.proofs.row_fine.Statement.{statement}
-use Rattle.paint.proofs.row_fine.Tie as tie
+use Rattle.rows.proofs.FineLaws.{fine-parts, first-fine, second-fine, third-fine}
+use Rattle.rows.proofs.paint.row_fine.Statement.{statement}
+use Rattle.rows.proofs.paint.row_fine.Tie as tie
 
 returns : tie.Need-returns
 returns c =
