@@ -37,8 +37,6 @@ struct MovieSaid {
 // Four letters as one number.
 pub const TRAK: u32 = 1953653099;
 
-const FTYP: u64 = 1718909296;
-
 const MOOV: u32 = 1836019574;
 
 const MDIA: u32 = 1835297121;
@@ -53,42 +51,67 @@ const IPRP: u32 = 1768977008;
 
 const IPCO: u32 = 1768973167;
 
+// The same of first boxes, brands and the media of tracks, in 64 bits: `finding::NONE` stands for none, and has 33.
+const FTYP: u64 = 1718909296;
+
+const FIRST_MOOV: u64 = MOOV as u64;
+
+const MDAT: u64 = 1835295092;
+
+const WIDE: u64 = 2003395685;
+
+const FREE: u64 = 1718773093;
+
+const SKIP: u64 = 1936419184;
+
+const AVIF: u64 = 1635150182;
+
+const MIF1: u64 = 1835623985;
+
+const AVIS: u64 = 1635150195;
+
+const MSF1: u64 = 1836279345;
+
+const VIDE: u64 = 1986618469;
+
+const PICT: u64 = 1885954932;
+
 // How many bytes a track's description of its pictures has in front of the boxes that it holds.
 const ENTRY_BYTES: u8 = 78;
 
-// Whether a file without a first box of its kind may begin so, as QuickTime files do: moov, mdat, wide, free, skip.
+// Whether a file without a first box of its kind may begin so, as QuickTime files do.
 fn opens_movie(first: u64) -> bool
     ensures { λ r. ⌜ r ≡ opensMovie first ⌝ }
 {
-    if first == 1836019574 {
+    if first == FIRST_MOOV {
         return true;
     }
-    if first == 1835295092 {
+    if first == MDAT {
         return true;
     }
-    if first == 2003395685 {
+    if first == WIDE {
         return true;
     }
-    if first == 1718773093 {
+    if first == FREE {
         return true;
     }
-    first == 1936419184
+    first == SKIP
 }
 
-// How a file of this brand is read: avif, mif1; avis, msf1; and all others.
+// How a file of this brand is read.
 fn branded(brand: u64) -> FileKind
     ensures { λ r. ⌜ r ≡ branded brand ⌝ }
 {
-    if brand == 1635150182 {
+    if brand == AVIF {
         return FileKind::Image;
     }
-    if brand == 1835623985 {
+    if brand == MIF1 {
         return FileKind::Image;
     }
-    if brand == 1635150195 {
+    if brand == AVIS {
         return FileKind::Sequence;
     }
-    if brand == 1836279345 {
+    if brand == MSF1 {
         return FileKind::Sequence;
     }
     FileKind::Movie
@@ -107,14 +130,14 @@ fn file_kind(first: u64, brand: u64) -> FileKind
     FileKind::Stranger
 }
 
-// vide, pict
+// Whether a track of this medium is a picture.
 fn is_picture(handler: u64) -> bool
     ensures { λ r. ⌜ r ≡ isPicture handler ⌝ }
 {
-    if handler == 1986618469 {
+    if handler == VIDE {
         return true;
     }
-    handler == 1885954932
+    handler == PICT
 }
 
 // What a track's descriptions of its pictures say.
