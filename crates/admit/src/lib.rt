@@ -129,12 +129,7 @@ pub fn admit_picture(
 ) -> Admission
     ensures { λ r. ⌜ r ≡ pictureAdmission call s (picture width height stride (now (a0 .entry)) (now (a1 .entry)) (now (a2 .entry))) (other ∷ []) ⌝ }
 {
-    let own = Layout {
-        stride,
-        n0: a0.len(),
-        n1: a1.len(),
-        n2: a2.len(),
-    };
+    let own = Layout::of(stride, a0, a1, a2);
     let admission = admit_sizes(call, s, width, height, own, other);
     let Admission::Admitted(served) = admission else {
         return admission;

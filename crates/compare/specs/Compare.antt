@@ -21,6 +21,10 @@ rowsDiffer c0 c1 c2 b0 b1 b2 i = differ (pixelIn c0 c1 c2 i) (pixelIn b0 b1 b2 i
 abbrev pub mostPart : ℕ
 mostPart = 512
 
+-- what is said of pixels that were compared: the index of the first that is wrong, and how many are
+abbrev pub tallied : ℕ → ℕ → Tally
+tallied first wrong = record { fine = true; first = first; wrong = wrong }
+
 -- n pixels by a test of them: all that are wrong are counted, and the first is named where it was sought
 pub record Compared (r : Tally) (sought : Bool) (n : ℕ) (test : ℕ → Bool) : Type 0 where
   pub fine : r .fine ≡ true

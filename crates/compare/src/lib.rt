@@ -6,7 +6,7 @@ ghost use Rattle.sample.specs.Flag.{oneIf};
 ghost use Rattle.planes.specs.Sizes.{Long};
 ghost use Rattle.convert.specs.Row.{rowPart, OneWidth};
 ghost use Rattle.compare.specs.Count.{countOf, FirstAt};
-ghost use Rattle.compare.specs.Compare.{mostPart, differ, rowsDiffer, Compared};
+ghost use Rattle.compare.specs.Compare.{mostPart, tallied, differ, rowsDiffer, Compared};
 use convert::pixels::pixel_in;
 use sample::Pixel;
 
@@ -16,6 +16,19 @@ pub struct Tally {
     pub fine: bool,
     pub first: usize,
     pub wrong: u64,
+}
+
+impl Tally {
+    // Of pixels that were compared.
+    pub fn of(first: usize, wrong: u64) -> Tally
+        ensures { λ r. ⌜ r ≡ tallied first wrong ⌝ }
+    {
+        Tally {
+            fine: true,
+            first,
+            wrong,
+        }
+    }
 }
 
 // 1 of two pixels that differ, and else 0.
@@ -88,15 +101,10 @@ fn compare_rows(
     ensures { λ r. ⌜ Compared r sought (length (now (c0 .entry))) (rowsDiffer (now (c0 .entry)) (now (c1 .entry)) (now (c2 .entry)) (now (b0 .entry)) (now (b1 .entry)) (now (b2 .entry))) ⌝ }
 {
     let wrong = count_apart(c0, c1, c2, b0, b1, b2);
-    let mut first = 0;
     if sought {
-        first = first_apart(wrong, c0, c1, c2, b0, b1, b2);
+        return Tally::of(first_apart(wrong, c0, c1, c2, b0, b1, b2), wrong);
     }
-    Tally {
-        fine: true,
-        first,
-        wrong,
-    }
+    Tally::of(0, wrong)
 }
 
 // The first n pixels of three rows, and those from index `to` of the claimed planes on.

@@ -75,38 +75,17 @@ pub fn convert_frame(
 {
     let width = size.width;
     let height = size.height;
-    let input_stride = size.input_stride;
-    let output_stride = size.output_stride;
+    let stride = size.input_stride;
     let call = Call::Convert(way);
-    let input = Layout {
-        stride: input_stride,
-        n0: a0.len(),
-        n1: a1.len(),
-        n2: a2.len(),
-    };
-    let output = Layout {
-        stride: output_stride,
-        n0: b0.len(),
-        n1: b1.len(),
-        n2: b2.len(),
-    };
+    let input = Layout::of(stride, a0, a1, a2);
+    let output = Layout::of(size.output_stride, b0, b1, b2);
     match admit::admit_sizes(call, s, width, height, input, output) {
         Admission::Admitted(served) => {
             if painted(way, served, size, a0, a1, a2, b0, b1, b2) {
                 return FrameAnswer::Done;
             }
             planes::fill::zero_three(b0, b1, b2);
-            answer_of(admit::admit_picture(
-                call,
-                s,
-                width,
-                height,
-                input_stride,
-                output,
-                a0,
-                a1,
-                a2,
-            ))
+            answer_of(admit::admit_picture(call, s, width, height, stride, output, a0, a1, a2))
         }
         Admission::Refused(refusal) => {
             planes::fill::zero_three(b0, b1, b2);

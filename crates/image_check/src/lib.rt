@@ -7,12 +7,12 @@ ghost use Rattle.planes.specs.Sizes.{Fits};
 ghost use Rattle.plan.specs.Plan.{planned, Roomy, Takes};
 ghost use Rattle.plan.specs.Source.{comesBack};
 ghost use Rattle.image_check.specs.Image.{firstFailing, imageAnswer};
+use convert::pixels::pixel_in;
 use plan::Plan;
 use planes::size::Layout;
 use planes::size::row_start;
 use refusal::Place;
 use refusal::Refusal;
-use sample::Pixel;
 use scan::Found;
 use setting::Call;
 use setting::Setting;
@@ -54,20 +54,8 @@ fn first_sourceless(
             continue;
         }
         for i in 0..width {
-            let k = a + i;
-            let p = Pixel {
-                p0: a0[k],
-                p1: a1[k],
-                p2: a2[k],
-            };
-            if !convert::comes_back(back, forth, p) {
-                let row = j as u16;
-                let column = i as u16;
-                found = Found::At(Place {
-                    plane: 0,
-                    row,
-                    column,
-                });
+            if !convert::comes_back(back, forth, pixel_in(a0, a1, a2, a + i)) {
+                found = Found::At(Place::of_pixel(j as u16, i as u16));
                 break 'rows;
             }
         }
@@ -87,12 +75,7 @@ pub fn image_check(
 ) -> ImageAnswer
     ensures { λ r. ⌜ r ≡ imageAnswer s (picture width height stride (now (a0 .entry)) (now (a1 .entry)) (now (a2 .entry))) ⌝ }
 {
-    let own = Layout {
-        stride,
-        n0: a0.len(),
-        n1: a1.len(),
-        n2: a2.len(),
-    };
+    let own = Layout::of(stride, a0, a1, a2);
     match admit::admit_picture(Call::ImageCheck, s, width, height, stride, own, a0, a1, a2) {
         Admission::Refused(refusal) => ImageAnswer::Refused(refusal),
         Admission::Admitted(served) => {

@@ -1,7 +1,6 @@
 -- A picture that was told by a plan, and what that makes the call answer.
 use mathlib.Core.Path.{_≡_, sym, ap, _∙_}
 use mathlib.Core.Bool.{true}
-use mathlib.Core.List.{[], _∷_}
 use Prim.Native.Nat.{ℕ, _<_}
 use Rattle.sample.specs.Depth.{tops}
 use Rattle.sample.specs.declared.Pixel.{Pixel}
@@ -14,15 +13,14 @@ use Rattle.setting.specs.declared.admission.Admission.{Admission}
 use Rattle.setting.specs.declared.admission.Admission.the-variants as admission
 use Rattle.setting.specs.declared.admission.Served.{Served}
 use Rattle.planes.specs.Picture.{Picture, layoutOf, pixelOf}
-use Rattle.planes.specs.Sizes.{sizeRules}
 use Rattle.plan.specs.Conversion.{convert}
 use Rattle.row_plan.specs.RowPlan.{rowPlanned, RowPlans}
 use Rattle.row_plan.specs.declared.RowPlan.{RowPlan}
 use Rattle.scan.proofs.Searches.{first-place-same}
 use Rattle.compare.specs.Compare.{differ}
-use Rattle.admit.specs.Rules.{sizedAdmission, frameAdmission}
+use Rattle.admit.specs.Rules.{frameAdmission}
 use Rattle.admit.proofs.AdmitLaws.{still-refused}
-use Rattle.admit.proofs.LetIn.{FrameSized, let-in}
+use Rattle.admit.proofs.LetIn.{bySizes, FrameSized, let-in}
 use Rattle.rows.proofs.TopLaws.{tells-inside}
 use Rattle.judge.specs.Judge.{isWrong, firstWrong, countWrong, verdict, judgeBy, judgement, PictureTold, JudgedIf}
 use Rattle.judge.specs.declared.Judgement.the-variants.{Refused}
@@ -61,7 +59,7 @@ module _ (way : Way) (s : Setting) (a b : Picture) where
   refused r e = ap (λ v. judgeBy v way a b) (sym e)
 
   -- it is refused by its setting or its sizes
-  pub refused-first : (r : Refusal) → sizedAdmission (Convert way) s (sizeRules (a .width) (a .height) (layoutOf a ∷ layoutOf b ∷ [])) ≡ admission.Refused r
+  pub refused-first : (r : Refusal) → bySizes way s a (layoutOf b) ≡ admission.Refused r
       → Refused r ≡ judgement way s a b
   refused-first r e = refused r (still-refused (Convert way) s _ _ r e)
 

@@ -17,7 +17,7 @@ use Rattle.scan.specs.First.{RunFine, RunsFine, Tells}
 use Rattle.scan.proofs.Searches.{yes}
 use Rattle.convert.specs.Row.{rowPart, rowOf, pixelIn, ConvertedRows}
 use Rattle.compare.specs.Count.{countOf, FirstAt}
-use Rattle.compare.specs.Compare.{differ, rowsDiffer, Compared}
+use Rattle.compare.specs.Compare.{tallied, differ, rowsDiffer, Compared}
 use Rattle.compare.specs.declared.Tally.{Tally}
 use Rattle.compare.proofs.CountLaws.{count-none, count-parts, count-same, first-none, first-part, first-kept}
 use Rattle.compare.proofs.CompareLaws.{first-same}
@@ -142,7 +142,7 @@ module _ {tops : Pixel} {f : Pixel → Pixel} {from to n : ℕ} {a0 a1 a2 b0 b1 
 
   -- all parts
   pub running-all : {first wrong done : ℕ} → Running tops f from to n a0 a1 a2 b0 b1 b2 first wrong done → done ≡ n
-      → RunTold (record { fine = true; first = first; wrong = wrong }) tops f from to n a0 a1 a2 b0 b1 b2
+      → RunTold (tallied first wrong) tops f from to n a0 a1 a2 b0 b1 b2
   running-all {first} {wrong} r e =
       let s = subst (Running tops f from to n a0 a1 a2 b0 b1 b2 first wrong) e r in
       record { tells = yes (s .fine); told = λ t. record { fine = refl; counted = s .counted; found = λ t. s .first-at } }

@@ -78,31 +78,19 @@ pub fn judge_frame(
 {
     let width = size.width;
     let height = size.height;
-    let input_stride = size.input_stride;
-    let output_stride = size.output_stride;
+    let stride = size.input_stride;
     let call = Call::Convert(way);
-    let input = Layout {
-        stride: input_stride,
-        n0: a0.len(),
-        n1: a1.len(),
-        n2: a2.len(),
-    };
-    let claimed = Layout {
-        stride: output_stride,
-        n0: b0.len(),
-        n1: b1.len(),
-        n2: b2.len(),
-    };
+    let input = Layout::of(stride, a0, a1, a2);
+    let claimed = Layout::of(size.output_stride, b0, b1, b2);
     match admit::admit_sizes(call, s, width, height, input, claimed) {
         Admission::Refused(refusal) => Judgement::Refused(refusal),
         Admission::Admitted(served) => {
             let told = judged(way, served, size, a0, a1, a2, b0, b1, b2);
             if told.fine {
                 let first = told.first;
-                let wrong = told.wrong;
-                return verdict(first, wrong);
+                return verdict(first, told.wrong);
             }
-            match admit::admit_picture(call, s, width, height, input_stride, claimed, a0, a1, a2) {
+            match admit::admit_picture(call, s, width, height, stride, claimed, a0, a1, a2) {
                 Admission::Refused(refusal) => Judgement::Refused(refusal),
                 // never: a sample is beyond its depth
                 Admission::Admitted(_) => Judgement::Agrees,

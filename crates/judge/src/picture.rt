@@ -33,13 +33,7 @@ fn or_row(found: Found, j: usize, column: usize, width: usize) -> Found
     if width <= column {
         return Found::Nothing;
     }
-    let row = j as u16;
-    let column = column as u16;
-    Found::At(Place {
-        plane: 0,
-        row,
-        column,
-    })
+    Found::At(Place::of_pixel(j as u16, column as u16))
 }
 
 // Row by row.
@@ -98,13 +92,7 @@ fn found_in(index: usize, n: usize, width: usize) -> Found
     if n <= index {
         return Found::Nothing;
     }
-    let row = (index / width) as u16;
-    let column = (index % width) as u16;
-    Found::At(Place {
-        plane: 0,
-        row,
-        column,
-    })
+    Found::At(Place::of_pixel((index / width) as u16, (index % width) as u16))
 }
 
 // All rows as one, where nothing lies between them on either side.

@@ -125,9 +125,5 @@ pub fn tally_run(
         wrong += part.wrong;
         done += m;
     }
-    Tally {
-        fine: true,
-        first,
-        wrong,
-    }
+    Tally::of(first, wrong)
 }

@@ -2,8 +2,9 @@
 ghost use mathlib.Core.Path.{_≡_};
 ghost use mathlib.Core.List.{[], _∷_};
 ghost use Prim.Native.Nat.{_≤_, _<_};
+ghost use lib.ListN.{length};
 ghost use Rattle.refusal.specs.Rules.{first};
-ghost use Rattle.planes.specs.Sizes.{outside, sizeOutside, layoutShort, sizeRules, mostSize, mostStride, RowStart, Sized};
+ghost use Rattle.planes.specs.Sizes.{layout, outside, sizeOutside, layoutShort, sizeRules, mostSize, mostStride, RowStart, Sized};
 use refusal::Check;
 use refusal::Refusal;
 
@@ -18,6 +19,20 @@ pub struct Layout {
     pub n0: usize,
     pub n1: usize,
     pub n2: usize,
+}
+
+impl Layout {
+    // That of three planes with this stride.
+    pub fn of(stride: usize, p0: &[u16], p1: &[u16], p2: &[u16]) -> Layout
+        ensures { λ r. ⌜ r ≡ layout stride (length (now (p0 .entry))) (length (now (p1 .entry))) (length (now (p2 .entry))) ⌝ }
+    {
+        Layout {
+            stride,
+            n0: p0.len(),
+            n1: p1.len(),
+            n2: p2.len(),
+        }
+    }
 }
 
 // Where row j of a plane starts.

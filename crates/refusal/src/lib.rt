@@ -1,12 +1,25 @@
 // The one refusal type of every call: a number, and where that is 10 the sample, by its place and as it was found.
 ghost use mathlib.Core.Path.{_≡_};
-ghost use Rattle.refusal.specs.Rules.{numbered, badAt};
+ghost use Rattle.refusal.specs.Rules.{at, numbered, badAt};
 
 // Where a sample stands: its plane, row and column, counted from 0.
 pub struct Place {
     pub plane: u8,
     pub row: u16,
     pub column: u16,
+}
+
+impl Place {
+    // That of a pixel, which has its row and column in each plane and is named by the first.
+    pub fn of_pixel(row: u16, column: u16) -> Place
+        ensures { λ r. ⌜ r ≡ at 0 row column ⌝ }
+    {
+        Place {
+            plane: 0,
+            row,
+            column,
+        }
+    }
 }
 
 pub struct Refusal {

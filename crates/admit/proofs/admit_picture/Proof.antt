@@ -20,29 +20,34 @@ use Rattle.admit.proofs.admit_picture.Tie as tie
 abbrev lent : tie.Start → Picture
 lent s = picture (s .args .width) (s .args .height) (s .args .stride) (s .args .a0 .now) (s .args .a1 .now) (s .args .a2 .now)
 
+-- what setting and sizes come to
+by-sizes : (c : tie.After-admit-sizes) → let s = c .before .before .before .before .before in
+    c .admit-sizes .result ≡ sizedAdmission (s .args .call) (s .args .s) (sizeRules (s .args .width) (s .args .height) (layoutOf (lent s) ∷ s .args .other ∷ []))
+by-sizes c = rw (c .before .of .ensures) at (c .admit-sizes .ensures)
+
 returns : tie.Need-returns
 returns c =
-    let s = c .before .before .before .before .before .before in
+    let s = c .before .before .before .before .before .before .before in
     let e = c .enum-told .given .1 in
-    e ∙ sym (still-refused (s .args .call) (s .args .s) _ _ _ (sym (c .before .before .admit-sizes .ensures) ∙ e))
+    e ∙ sym (still-refused (s .args .call) (s .args .s) _ _ _ (sym (by-sizes (c .before .before)) ∙ e))
 
--- let in by setting and sizes
-let-in : (c : tie.After-admission) → let s = c .before .before .before .before .before .before in
+-- let in by them
+let-in : (c : tie.After-admission) → let s = c .before .before .before .before .before .before .before in
     sizedAdmission (s .args .call) (s .args .s) (sizeRules (s .args .width) (s .args .height) (layoutOf (lent s) ∷ s .args .other ∷ [])) ≡ Admitted (c .admission .given .0 .0)
-let-in c = sym (c .before .before .admit-sizes .ensures) ∙ c .admission .given .1
+let-in c = sym (by-sizes (c .before .before)) ∙ c .admission .given .1
 
 tops-requires : tie.Need-tops-requires
-tops-requires c κs = let s = c .before .before .before .before .before .before .before .before .before in sized-ready (s .args .call) (s .args .s) _ _ (let-in (c .before .before .before)) .three
+tops-requires c κs = let s = c .before .before .before .before .before .before .before .before .before .before in sized-ready (s .args .call) (s .args .s) _ _ (let-in (c .before .before .before)) .three
 
 bad-of-three-requires : tie.Need-bad-of-three-requires
 bad-of-three-requires c κs =
-    let s = c .before .before .before .before .before .before .before .before .before .before in
+    let s = c .before .before .before .before .before .before .before .before .before .before .before in
     let f = fits _ _ _ (sized (s .args .call) (s .args .s) _ _ (let-in (c .before .before .before .before)) .1) .0 in
     (f .sized, f .long)
 
 returns-2 : tie.Need-returns-2
 returns-2 c =
-    let s = c .before .before .before .before .before .before .before .before .before .before .before .before in
+    let s = c .before .before .before .before .before .before .before .before .before .before .before .before .before in
     let l = let-in (c .before .before .before .before .before .before) in
     let same = is-served (s .args .call) (s .args .s) _ _ l in
     let found = c .before .bad-of-three .ensures
@@ -53,5 +58,5 @@ returns-2 c =
 pub admit-picture-spec : {M : Type 1} → statement M
 admit-picture-spec =
     tie.close
-    (tie.spec (λ c κs. search needs) (λ c. search needs) (λ c. search needs) returns (λ c κs. search needs) tops-requires
+    (tie.spec (λ c κs. search needs) (λ c κs. search needs) (λ c. search needs) (λ c. search needs) returns (λ c κs. search needs) tops-requires
     bad-of-three-requires (λ c κs. search needs) returns-2)

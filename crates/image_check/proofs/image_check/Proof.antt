@@ -1,7 +1,7 @@
 -- `image_check::image_check` meets its contract: what its rules leave known is what the walk asks, and its answer is what that found.
 use mathlib.Core.Path.{_≡_, sym, ap, _∙_, subst}
 use mathlib.Core.Bool.{not}
-use mathlib.Core.List.{[]}
+use mathlib.Core.List.{[], _∷_}
 use borrow.Author.Needs.{needs}
 use Rattle.sample.specs.Depth.{InsideYCC}
 use Rattle.setting.specs.Ready.{Ready}
@@ -29,12 +29,16 @@ record Known (x : ServedSetting) (a : Picture) : Type 0 where
 abbrev lent : tie.Start → Picture
 lent c = picture (c .args .width) (c .args .height) (c .args .stride) (c .args .a0 .now) (c .args .a1 .now) (c .args .a2 .now)
 
-admitted-as : (c : tie.After-admit-picture) → pictureAdmission ImageCheck (c .before .before .before .before .args .s) (lent (c .before .before .before .before)) [] ≡ c .admit-picture .result
-admitted-as c = sym (c .admit-picture .ensures ∙ own-again ImageCheck (c .before .before .before .before .args .s) (lent (c .before .before .before .before)))
+-- a call that writes no planes names its own again
+with-own : (c : tie.After-admit-picture) → let s = c .before .before .before .before .before in c .admit-picture .result ≡ pictureAdmission ImageCheck (s .args .s) (lent s) (layoutOf (lent s) ∷ [])
+with-own c = rw (c .before .of .ensures) at (c .admit-picture .ensures)
 
-known : (c : tie.After-known-told2) → Known (c .before .served .given .0 .0) (lent (c .before .before .before .before .before .before .before))
+admitted-as : (c : tie.After-admit-picture) → let s = c .before .before .before .before .before in pictureAdmission ImageCheck (s .args .s) (lent s) [] ≡ c .admit-picture .result
+admitted-as c = let s = c .before .before .before .before .before in sym (with-own c ∙ own-again ImageCheck (s .args .s) (lent s))
+
+known : (c : tie.After-known-told2) → Known (c .before .served .given .0 .0) (lent (c .before .before .before .before .before .before .before .before))
 known c =
-    let s = c .before .before .before .before .before .before .before in
+    let s = c .before .before .before .before .before .before .before .before in
     let k = accepted-of ImageCheck (s .args .s) _ _ _ (admitted-as (c .before .before .before) ∙ c .before .served .given .1) in
     record {
       ready = subst Ready (k .1) (is-ready ImageCheck (s .args .s) _ _ (k .0));
@@ -50,10 +54,10 @@ first-sourceless-requires c κs =
     ((k .roomy, l .roomy), (h .fits, (λ j i p q. takes-back _ k l _ (h .inside j i p q), λ j i p q. takes-forth _ k l _ (h .ready) (h .inside j i p q))))
 
 -- what was found, as the answer
-answered : (c : tie.After-first-sourceless) → answerFound (c .first-sourceless .result) ≡ imageAnswer (c .before .before .before .before .before .before .before .before .before .before .args .s) (lent (c .before .before .before .before .before .before .before .before .before .before))
+answered : (c : tie.After-first-sourceless) → answerFound (c .first-sourceless .result) ≡ imageAnswer (c .before .before .before .before .before .before .before .before .before .before .before .args .s) (lent (c .before .before .before .before .before .before .before .before .before .before .before))
 unfolding imageAnswer
 answered c =
-    let s = c .before .before .before .before .before .before .before .before .before .before in
+    let s = c .before .before .before .before .before .before .before .before .before .before .before in
     let r = known (c .before .before .before) .ready in
     let same = comes-back-as _ (plans-as _ _ (c .before .before .plan-of .ensures) r) (plans-as _ _ (c .before .plan-of2 .ensures) r) in
     ap answerFound (c .first-sourceless .ensures ∙ first-place-same _ _ 0 (s .args .width) (s .args .height) (λ j i p q. ap not (same (pixelOf (lent s) j i))))
@@ -72,6 +76,6 @@ returns-3 c = rw (c .enum-told .given .1) at (answered (c .before .before))
 pub image-check-spec : {M : Type 1} → statement M
 image-check-spec =
     tie.close
-    (tie.spec (λ c κs. search needs) (λ c. search needs) (λ c. search needs) (λ c κs. known c .ready)
+    (tie.spec (λ c κs. search needs) (λ c κs. search needs) (λ c. search needs) (λ c. search needs) (λ c κs. known c .ready)
     (λ c κs. known (c .before) .ready) first-sourceless-requires (λ c. search needs) (λ c. search needs) returns returns-2
     returns-3)

@@ -110,14 +110,14 @@ loop-again c =
 
 returns-2 : tie.Need-returns-2 Inv-loop μ-loop
 returns-2 c =
-    let l = c .before .loop in
-    let x = c .before .before .before .before .before .before .before .before .before .before .before .args in
+    let l = c .before .before .loop in
+    let x = c .before .before .before .before .before .before .before .before .before .before .before .before .args in
     let e : l .done ≡ x .n = omega (arith, l .inv .0 .until) in
-    running-all (l .inv .0) e
+    rw (c .of .ensures) (running-all (l .inv .0) e)
 
 pub tally-run-spec : {M : Type 1} → statement M
 tally-run-spec =
     tie.close
     (tie.spec Inv-loop μ-loop (λ c κs. search needs) (λ c κs. search needs) (λ c κs. search needs) loop-holds sub-next-part (λ c κs. search needs)
     (λ c. search needs) (λ c. search needs) (λ c. sym (c .before .before .before .loop .inv .1 .0)) (λ c. sym (c .before .before .before .before .loop .inv .1 .1 .0))
-    (λ c. sym (c .before .before .before .before .before .loop .inv .1 .1 .1)) tally-part-requires returns add-first add-wrong add-done loop-less loop-again returns-2)
+    (λ c. sym (c .before .before .before .before .before .loop .inv .1 .1 .1)) tally-part-requires returns add-first add-wrong add-done loop-less loop-again (λ c κs. search needs) returns-2)
