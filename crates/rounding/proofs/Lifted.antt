@@ -5,7 +5,10 @@ use mathlib.Core.Logic.{⊎-elim}
 use Prim.Native.Nat.{ℕ, _+_, _*_, _-_, _/_, _≤_, _<_, min}
 use native.Mathlib.Nat.{le-trans, add-mul, le-of-mul-le-mul-left, lt-of-mul-lt-mul-left, lt-of-mul-lt-mul-right, div-mul-le-self, lt-div-mul-add, div-eq-of-lt-le, div-lt-iff-lt-mul, le-div-iff-mul-le, mul-pos}
 use native.Mathlib.Omega.{arith}
+use lib.Dec.{ltb}
 use lib.IntN.{pos, _+ℤ_, _-ℤ_}
+use borrow.Author.Tests.{lt-ltb, le-ltb}
+use Rattle.sample.specs.Flag.{oneIf}
 use Rattle.sample.proofs.Choices.{below-or-not}
 use Rattle.rounding.specs.Rounding.{round, clip}
 use Rattle.rounding.proofs.Rounding.{gap, nearest, from-zero, below-zero}
@@ -94,6 +97,14 @@ module _ {p q d g e m lift : ℕ} (v : Lifted p q d g e m lift) where
 
     pub downward : p < q → min ((m - 1) / e - low) top ≡ clip top (round (pos p -ℤ pos q) d +ℤ pos mid)
     downward f = let b = rounds-down f in let is = below-zero p q d mid top f in omega arith
+
+    -- and where the code takes the one away by a test of it
+    pub by-side : {less : ℕ} → less ≡ oneIf (ltb p q) → min ((m - less) / e - low) top ≡ clip top (round (pos p -ℤ pos q) d +ℤ pos mid)
+    by-side {less} is =
+        ⊎-elim
+        (λ (f : p < q). rw (is ∙ ap oneIf (lt-ltb p q f)) (downward f))
+        (λ (f : q ≤ p). let none : m - less ≡ m = omega (arith, is ∙ ap oneIf (le-ltb p q f)) in rw none (upward f))
+        (below-or-not p q)
 
     -- (m - 1) / e below the lift: the line is below zero
     pub low-side : (m - 1) / e < lift → min ((m - 1) / e - low) top ≡ clip top (round (pos p -ℤ pos q) d +ℤ pos mid)

@@ -1,7 +1,7 @@
 -- The three operations on whole numbers that the formulas use: ">> 1", Round and Clip.
 use Prim.Native.Nat.{ℕ, suc, _+_, _*_, _/_, _^_, _≤_, _<_, min}
 use lib.IntN.{ℤ, pos, negsuc, negℤ}
-use Rattle.sample.specs.Depth.{mostDepth, M}
+use Rattle.sample.specs.Depth.{mostDepth, M, pastSamples}
 
 -- z >> 1: half of z, rounded down on both sides of zero. -(n + 1) becomes -(n / 2 + 1), so -1 becomes -1.
 unfoldable pub half : ℤ → ℤ
@@ -31,7 +31,14 @@ sample (negsuc n) = 0
 pub record Rounds (p q den mid top : ℕ) : Type 0 where
   pub p-fits : 2 * p + den < 2 ^ 64
   pub q-fits : 2 * q + den < 2 ^ 64
-  pub den-fits : 2 * den < 2 ^ 64
+  pub den-some : 0 < den
+  pub mid-in : mid ≤ top
+  pub top-small : top ≤ M mostDepth
+
+-- and that it has room for in 32 bits, where p - q over den is never as far below zero as there are samples
+pub record RoundsSmall (p q den mid top : ℕ) : Type 0 where
+  pub p-fits : 2 * (p + pastSamples * den) + den < 2 ^ 32
+  pub q-fits : q ≤ pastSamples * den
   pub den-some : 0 < den
   pub mid-in : mid ≤ top
   pub top-small : top ≤ M mostDepth

@@ -8,7 +8,7 @@ ghost use mathlib.Core.Bool.{cond};
 ghost use Prim.Native.Nat.{_+_, _*_, _-_, _^_, _≤_, _<_, min};
 ghost use lib.IntN.{pos, _+ℤ_, _-ℤ_};
 ghost use Rattle.sample.specs.Depth.{mostDepth, M};
-ghost use Rattle.rounding.specs.Rounding.{round, clip, Rounds};
+ghost use Rattle.rounding.specs.Rounding.{round, clip, Rounds, RoundsSmall};
 ghost use Rattle.rounding.specs.Quotient.{Divides};
 use quotient::Divisor;
 
@@ -59,16 +59,7 @@ fn dividend(p: u64, q: u64, den: u64) -> u64
     2 * (p - q) + den
 }
 
-// Clip(Round((p - q) / den) + mid) into 0..top. For a denominator that is a literal.
-pub fn round_clip(p: u64, q: u64, den: u64, mid: u64, top: u64) -> u16
-    requires { ⌜ Rounds p q den mid top ⌝ }
-    ensures { λ r. ⌜ r ≡ clip top (round (pos p -ℤ pos q) den +ℤ pos mid) ⌝ }
-{
-    let n = dividend(p, q, den) / (2 * den);
-    moved(n, mid, top, p < q)
-}
-
-// The same, for a denominator that many numbers are divided by: `by` stands for twice that.
+// Clip(Round((p - q) / den) + mid) into 0..top. For a denominator that many numbers are divided by: `by` stands for twice that.
 pub fn round_clip_by(p: u64, q: u64, den: u64, by: Divisor, mid: u64, top: u64) -> u16
     requires { ⌜ Rounds p q den mid top ⌝ }
     requires { ⌜ Divides by ⌝ }
@@ -92,4 +83,16 @@ pub fn clip_difference(p: u32, q: u32, top: u32) -> u16
         return top as u16;
     }
     n as u16
+}
+
+// Clip(Round((p - q) / den) + mid) into 0..top, for small numbers and a denominator that is a literal: 32 bits are enough for what is divided, lifted
+// so that it is not negative. Below zero it is less by one, which carries a half away from zero.
+pub fn round_clip(p: u32, q: u32, den: u32, mid: u32, top: u32) -> u16
+    requires { ⌜ RoundsSmall p q den mid top ⌝ }
+    ensures { λ r. ⌜ r ≡ clip top (round (pos p -ℤ pos q) den +ℤ pos mid) ⌝ }
+{
+    let lift = sample::PAST_SAMPLES as u32;
+    let m = 2 * (p + lift * den) + den - 2 * q;
+    let n = (m - sample::one_if(p < q) as u32) / (2 * den);
+    clip_difference(n, lift - mid, top)
 }

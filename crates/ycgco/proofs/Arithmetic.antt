@@ -4,11 +4,10 @@ use mathlib.Core.Path.{_≡_, _∙_}
 use Prim.Native.Nat.{ℕ, _+_, _-_, _*_, _/_, _≤_}
 use native.Mathlib.Omega.{arith}
 use lib.IntN.{ℤ, pos, _+ℤ_, _-ℤ_, _*ℤ_}
-use Rattle.rounding.specs.Rounding.{half, round, clip, sample}
-use Rattle.sample.specs.Depth.{mostDepth, M}
+use Rattle.rounding.specs.Rounding.{half, round, sample}
 use Rattle.sample.specs.declared.Pixel.{Pixel}
 use Rattle.rounding.proofs.Difference.{parts}
-use Rattle.rounding.proofs.FromParts.{same, is-sample, round-up, clip-within}
+use Rattle.rounding.proofs.FromParts.{same, is-sample, round-up}
 
 -- a pixel by its samples
 pub made-of : {a b c x y z : ℕ} → a ≡ x → b ≡ y → c ≡ z → _≡_ {A = Pixel} (record { p0 = a; p1 = b; p2 = c }) (record { p0 = x; p1 = y; p2 = z })
@@ -57,11 +56,9 @@ module _ (r g b : ℕ) where
   pub sum-round : round Sum 4 ≡ pos ((2 * (2 * g + r + b) + 4) / 8)
   sum-round = round-up (2 * g + r + b) 4 (search parts) (omega arith)
 
-  pub lossy-y : r ≤ M mostDepth → g ≤ M mostDepth → b ≤ M mostDepth → clip (M mostDepth) (round (pos (2 * g + r + b) -ℤ pos 0) 4 +ℤ pos 0) ≡ sample (round Sum 4)
+  pub lossy-y : {n : ℕ} → n ≡ (2 * g + r + b + 2) / 4 → n ≡ sample (round Sum 4)
   unfolding sample
-  lossy-y hr hg hb =
-      let e : pos (2 * g + r + b) -ℤ pos 0 ≡ Sum = same (search parts) (search parts) (omega arith) in
-      rw (e, sum-round) (clip-within (M mostDepth) ((2 * (2 * g + r + b) + 4) / 8) (search parts) (omega arith) (omega arith))
+  lossy-y e = rw sum-round (omega arith)
 
   pub lossy-cb : pos (2 * g) -ℤ pos (r + b) ≡ pos 2 *ℤ pos g -ℤ pos r -ℤ pos b
   lossy-cb = same (search parts) (search parts) (omega arith)

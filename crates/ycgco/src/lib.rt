@@ -11,12 +11,12 @@ pub fn lossy_forward(d: Depths, p: Pixel) -> Pixel
     requires { ⌜ LossyDepths d ⌝ }
     ensures { λ r. ⌜ r ≡ lossyForward d p ⌝ }
 {
-    let h = d.chroma.middle() as u64;
-    let top = d.chroma.largest() as u64;
-    let r = p.p0 as u64;
-    let g = p.p1 as u64;
-    let b = p.p2 as u64;
-    let p0 = rounding::round_clip(2 * g + r + b, 0, 4, 0, sample::PAST_SAMPLES - 1);
+    let h = d.chroma.middle() as u32;
+    let top = d.chroma.largest() as u32;
+    let r = p.p0 as u32;
+    let g = p.p1 as u32;
+    let b = p.p2 as u32;
+    let p0 = ((2 * g + r + b + 2) / 4) as u16;
     let p1 = rounding::round_clip(2 * g, r + b, 4, h, top);
     let p2 = rounding::round_clip(r, b, 2, h, top);
     Pixel { p0, p1, p2 }

@@ -18,7 +18,6 @@ round-clip-by-requires c κs =
       record {
         p-fits = omega arith;
         q-fits = omega arith;
-        den-fits = omega arith;
         den-some = r .over-some;
         mid-in = r .mid-in;
         top-small = omega arith;
