@@ -7,23 +7,18 @@ use Rattle.setting.specs.Ready.{Ready}
 use Rattle.setting.specs.declared.Call.the-variants.{Convert}
 use Rattle.setting.specs.declared.Setting.{Setting}
 use Rattle.setting.specs.declared.Way.{Way}
-use Rattle.setting.specs.declared.admission.Admission.{Admission}
 use Rattle.setting.specs.declared.admission.Admission.the-variants as admission
 use Rattle.setting.specs.declared.admission.Served.{Served}
 use Rattle.planes.specs.Picture.{Picture, layoutOf, EveryPixel}
-use Rattle.planes.specs.Sizes.{sizeRules, Fits}
+use Rattle.planes.specs.Sizes.{Fits}
 use Rattle.planes.specs.declared.size.Layout.{Layout}
 use Rattle.planes.proofs.SizeTheorems.{fits}
-use Rattle.admit.specs.Rules.{callAdmission, sizedAdmission, frameAdmission}
+use Rattle.admit.specs.Rules.{callAdmission, bySizes, frameAdmission}
 use Rattle.admit.proofs.Accepted.{accepted-of, pixels-inside, sized, is-served, sized-ready, inside-exactly}
 
--- what its setting and its sizes come to
-abbrev pub bySizes : Way → Setting → Picture → Layout → Admission
-bySizes way s a b = sizedAdmission (Convert way) s (sizeRules (a .width) (a .height) (layoutOf a ∷ b ∷ []))
-
--- they let it in, with x served
+-- its setting and its sizes let it in, with x served
 pub record FrameSized (way : Way) (s : Setting) (a : Picture) (b : Layout) (x : Served) : Type 0 where
-  pub is-sized : bySizes way s a b ≡ admission.Admitted x
+  pub is-sized : bySizes (Convert way) s a b ≡ admission.Admitted x
 
 module _ {way : Way} {s : Setting} {a : Picture} {b : Layout} {x : Served} (l : FrameSized way s a b x) where
   pub paintable : Ready x × (Fits (a .width) (a .height) (layoutOf a) × Fits (a .width) (a .height) b)

@@ -48,6 +48,10 @@ abbrev pub pictureAdmission : Call → Setting → Picture → List Layout → A
 pictureAdmission call s a others =
     callAdmission call s (sizeRules (a .width) (a .height) (layoutOf a ∷ others)) (beyondDepth (reads call) (depths s) a)
 
+-- the same before its samples are looked at
+abbrev pub bySizes : Call → Setting → Picture → Layout → Admission
+bySizes call s a other = sizedAdmission call s (sizeRules (a .width) (a .height) (layoutOf a ∷ other ∷ []))
+
 -- a conversion of picture a into planes of layout b
 abbrev pub frameAdmission : Way → Setting → Picture → Layout → Admission
 frameAdmission way s a b = pictureAdmission (call.Convert way) s a (b ∷ [])

@@ -21,9 +21,9 @@ use Rattle.planes.proofs.PlaneTheorems.{plane-same}
 use Rattle.plan.specs.Conversion.{convert}
 use Rattle.row_plan.specs.RowPlan.{rowPlanned, RowPlans}
 use Rattle.row_plan.specs.declared.RowPlan.{RowPlan}
-use Rattle.admit.specs.Rules.{frameAdmission}
+use Rattle.admit.specs.Rules.{bySizes, frameAdmission}
 use Rattle.admit.proofs.AdmitLaws.{still-refused}
-use Rattle.admit.proofs.LetIn.{bySizes, FrameSized, Inside, let-in, not-let-in}
+use Rattle.admit.proofs.LetIn.{FrameSized, Inside, let-in, not-let-in}
 use Rattle.rows.proofs.TopLaws.{tells-inside}
 use Rattle.frame.specs.Frame.{frameBy, frameAnswer, mappedPlane, convertedPlane, lengthOf, outPlane, FrameAfter, MappedPlanes, PaintedIf, ConvertedIf}
 use Rattle.frame.specs.declared.FrameAnswer.the-variants.{Done, Refused}
@@ -70,7 +70,7 @@ module _ (way : Way) (s : Setting) (a : Picture) (b : Layout) where
     zeroed z = (sym refused, (z .0 ∙ sym (plane-refused 0), (z .1 .0 ∙ sym (plane-refused 1), z .1 .1 ∙ sym (plane-refused 2))))
 
   -- it is refused by its setting or its sizes
-  pub refused-first : (r : Refusal) → bySizes way s a b ≡ admission.Refused r
+  pub refused-first : (r : Refusal) → bySizes (Convert way) s a b ≡ admission.Refused r
       → {q0 q1 q2 : List ℕ} → (q0 ≡ zeros (b .n0)) × ((q1 ≡ zeros (b .n1)) × (q2 ≡ zeros (b .n2))) → FrameAfter way s a b (Refused r) q0 q1 q2
   refused-first r e z = zeroed r (still-refused (Convert way) s _ _ r e) z
 

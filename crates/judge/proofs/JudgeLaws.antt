@@ -18,9 +18,9 @@ use Rattle.row_plan.specs.RowPlan.{rowPlanned, RowPlans}
 use Rattle.row_plan.specs.declared.RowPlan.{RowPlan}
 use Rattle.scan.proofs.Searches.{first-place-same}
 use Rattle.compare.specs.Compare.{differ}
-use Rattle.admit.specs.Rules.{frameAdmission}
+use Rattle.admit.specs.Rules.{bySizes, frameAdmission}
 use Rattle.admit.proofs.AdmitLaws.{still-refused}
-use Rattle.admit.proofs.LetIn.{bySizes, FrameSized, let-in}
+use Rattle.admit.proofs.LetIn.{FrameSized, let-in}
 use Rattle.rows.proofs.TopLaws.{tells-inside}
 use Rattle.judge.specs.Judge.{isWrong, firstWrong, countWrong, verdict, judgeBy, judgement, PictureTold, JudgedIf}
 use Rattle.judge.specs.declared.Judgement.the-variants.{Refused}
@@ -59,7 +59,7 @@ module _ (way : Way) (s : Setting) (a b : Picture) where
   refused r e = ap (λ v. judgeBy v way a b) (sym e)
 
   -- it is refused by its setting or its sizes
-  pub refused-first : (r : Refusal) → bySizes way s a (layoutOf b) ≡ admission.Refused r
+  pub refused-first : (r : Refusal) → bySizes (Convert way) s a (layoutOf b) ≡ admission.Refused r
       → Refused r ≡ judgement way s a b
   refused-first r e = refused r (still-refused (Convert way) s _ _ r e)
 

@@ -35,7 +35,7 @@ pub record Rounds (p q den mid top : ℕ) : Type 0 where
   pub mid-in : mid ≤ top
   pub top-small : top ≤ M mostDepth
 
--- and that it has room for in 32 bits, where p - q over den is never as far below zero as there are samples
+-- and that it has room for in 32 bits, where p - q over den is no farther below zero than there are samples
 pub record RoundsSmall (p q den mid top : ℕ) : Type 0 where
   pub p-fits : 2 * (p + pastSamples * den) + den < 2 ^ 32
   pub q-fits : q ≤ pastSamples * den

@@ -7,10 +7,9 @@ use Rattle.sample.specs.Depth.{tops}
 use Rattle.setting.specs.Rules.{admitted}
 use Rattle.setting.specs.declared.admission.Admission.the-variants.{Admitted}
 use Rattle.scan.specs.First.{badRule, badFound}
-use Rattle.planes.specs.Picture.{Picture, picture, layoutOf}
-use Rattle.planes.specs.Sizes.{sizeRules}
+use Rattle.planes.specs.Picture.{Picture, picture}
 use Rattle.planes.proofs.SizeTheorems.{fits}
-use Rattle.admit.specs.Rules.{sizedAdmission}
+use Rattle.admit.specs.Rules.{bySizes}
 use Rattle.admit.proofs.AdmitLaws.{still-refused}
 use Rattle.admit.proofs.Accepted.{sized, is-served, sized-ready, then-samples}
 use Rattle.admit.proofs.admit_picture.Statement.{statement}
@@ -21,8 +20,7 @@ abbrev lent : tie.Start → Picture
 lent s = picture (s .args .width) (s .args .height) (s .args .stride) (s .args .a0 .now) (s .args .a1 .now) (s .args .a2 .now)
 
 -- what setting and sizes come to
-by-sizes : (c : tie.After-admit-sizes) → let s = c .before .before .before .before .before in
-    c .admit-sizes .result ≡ sizedAdmission (s .args .call) (s .args .s) (sizeRules (s .args .width) (s .args .height) (layoutOf (lent s) ∷ s .args .other ∷ []))
+by-sizes : (c : tie.After-admit-sizes) → let s = c .before .before .before .before .before in c .admit-sizes .result ≡ bySizes (s .args .call) (s .args .s) (lent s) (s .args .other)
 by-sizes c = rw (c .before .of .ensures) at (c .admit-sizes .ensures)
 
 returns : tie.Need-returns
@@ -33,7 +31,7 @@ returns c =
 
 -- let in by them
 let-in : (c : tie.After-admission) → let s = c .before .before .before .before .before .before .before in
-    sizedAdmission (s .args .call) (s .args .s) (sizeRules (s .args .width) (s .args .height) (layoutOf (lent s) ∷ s .args .other ∷ [])) ≡ Admitted (c .admission .given .0 .0)
+    bySizes (s .args .call) (s .args .s) (lent s) (s .args .other) ≡ Admitted (c .admission .given .0 .0)
 let-in c = sym (by-sizes (c .before .before)) ∙ c .admission .given .1
 
 tops-requires : tie.Need-tops-requires

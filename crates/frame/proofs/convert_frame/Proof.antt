@@ -3,12 +3,13 @@
 use mathlib.Core.Path.{_≡_, sym, ap, _∙_}
 use borrow.Author.Needs.{needs}
 use lib.ListN.{length}
+use Rattle.setting.specs.declared.Call.the-variants.{Convert}
 use Rattle.tables.specs.Table.{zeros}
 use Rattle.planes.specs.Picture.{Picture}
 use Rattle.planes.specs.declared.size.Layout.{Layout}
-use Rattle.admit.proofs.LetIn.{bySizes, FrameSized, paintable}
+use Rattle.admit.specs.Rules.{bySizes}
+use Rattle.admit.proofs.LetIn.{FrameSized, paintable}
 use Rattle.rows.specs.Paint.{inputPicture, outputLayout}
-use Rattle.frame.specs.Frame.{frameBy, FrameAfter}
 use Rattle.frame.proofs.FrameLaws.{painted-all, turned-away, refused-first}
 use Rattle.frame.proofs.convert_frame.Statement.{statement}
 use Rattle.frame.proofs.convert_frame.Tie as tie
@@ -21,7 +22,7 @@ abbrev written : tie.Start → Layout
 written s = outputLayout (s .args .size) (length (s .args .b0 .now)) (length (s .args .b1 .now)) (length (s .args .b2 .now))
 
 -- who is let in by setting and sizes
-by-sizes : (c : tie.After-admit-sizes) → let s = c .before .before .before .before .before .before .before .before .before .before .before .before in c .admit-sizes .result ≡ bySizes (s .args .way) (s .args .s) (source s) (written s)
+by-sizes : (c : tie.After-admit-sizes) → let s = c .before .before .before .before .before .before .before .before .before .before .before .before in c .admit-sizes .result ≡ bySizes (Convert (s .args .way)) (s .args .s) (source s) (written s)
 by-sizes c = rw (c .before .before .before .before .before .of .ensures, c .before .of2 .ensures) at (c .admit-sizes .ensures)
 
 let-in : (c : tie.After-served) → let s = c .before .before .before .before .before .before .before .before .before .before .before .before .before .before in FrameSized (s .args .way) (s .args .s) (source s) (written s) (c .served .given .0 .0)

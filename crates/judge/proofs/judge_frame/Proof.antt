@@ -1,8 +1,10 @@
 -- `judge::judge_frame` meets its contract: what setting and sizes let in is judged if the source's samples are within depth, and else refused.
 use mathlib.Core.Path.{_≡_, sym, _∙_}
 use borrow.Author.Needs.{needs}
+use Rattle.setting.specs.declared.Call.the-variants.{Convert}
 use Rattle.planes.specs.Picture.{Picture, layoutOf}
-use Rattle.admit.proofs.LetIn.{bySizes, FrameSized, paintable, not-let-in}
+use Rattle.admit.specs.Rules.{bySizes}
+use Rattle.admit.proofs.LetIn.{FrameSized, paintable, not-let-in}
 use Rattle.rows.specs.Paint.{inputPicture, outputPicture}
 use Rattle.judge.proofs.JudgeLaws.{refused-first, refused-after, told-all}
 use Rattle.judge.proofs.judge_frame.Statement.{statement}
@@ -16,7 +18,7 @@ abbrev claimed : tie.Start → Picture
 claimed s = outputPicture (s .args .size) (s .args .b0 .now) (s .args .b1 .now) (s .args .b2 .now)
 
 -- who is let in by setting and sizes
-by-sizes : (c : tie.After-admit-sizes) → let s = c .before .before .before .before .before .before .before .before .before in c .admit-sizes .result ≡ bySizes (s .args .way) (s .args .s) (source s) (layoutOf (claimed s))
+by-sizes : (c : tie.After-admit-sizes) → let s = c .before .before .before .before .before .before .before .before .before in c .admit-sizes .result ≡ bySizes (Convert (s .args .way)) (s .args .s) (source s) (layoutOf (claimed s))
 by-sizes c = rw (c .before .before .of .ensures, c .before .of2 .ensures) at (c .admit-sizes .ensures)
 
 let-in : (c : tie.After-served) → let s = c .before .before .before .before .before .before .before .before .before .before .before in FrameSized (s .args .way) (s .args .s) (source s) (layoutOf (claimed s)) (c .served .given .0 .0)

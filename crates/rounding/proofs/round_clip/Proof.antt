@@ -10,11 +10,8 @@ use Rattle.rounding.proofs.Lifted.{Lifted, by-side}
 use Rattle.rounding.proofs.round_clip.Statement.{statement}
 use Rattle.rounding.proofs.round_clip.Tie as tie
 
-abbrev Divided : tie.Start → Type 0
-Divided s = let x = s .args in Lifted (x .p) (x .q) (x .den) 1 (2 * x .den) (2 * (x .p + pastSamples * x .den) + x .den - 2 * x .q) pastSamples
-
-divided : (s : tie.Start) → Divided s
-divided s =
+lifted : (s : tie.Start) → let x = s .args in Lifted (x .p) (x .q) (x .den) 1 (2 * x .den) (2 * (x .p + pastSamples * x .den) + x .den - 2 * x .q) pastSamples
+lifted s =
     let fits = s .pre in
     record { g-some = omega arith; e-some = omega arith; m-some = omega arith; denominator = omega arith; numerator = omega arith }
 
@@ -23,7 +20,7 @@ returns c =
     let x = c .before .before .args in
     let fits = c .before .before .pre in
     c .clip-difference .ensures ∙ clip-of (x .top) (search parts)
-    ∙ by-side (divided (c .before .before)) (x .mid) (pastSamples - x .mid) (x .top) (omega arith) (c .before .one-if .ensures .0)
+    ∙ by-side (lifted (c .before .before)) (x .mid) (pastSamples - x .mid) (x .top) (omega arith) (c .before .one-if .ensures .0)
 
 pub round-clip-spec : {M : Type 1} → statement M
 round-clip-spec =
