@@ -1,13 +1,12 @@
 // Who is let in: the first rule of a call that applies, or the setting in checked kinds.
 ghost use mathlib.Core.Path.{_≡_};
 ghost use mathlib.Core.List.{[], _∷_};
-ghost use lib.ListN.{length};
 ghost use Rattle.sample.specs.Depth.{ThreeDepths};
 ghost use Rattle.refusal.specs.Rules.{first};
 ghost use Rattle.setting.specs.Rules.{admitted};
 ghost use Rattle.scan.specs.First.{badRule};
 ghost use Rattle.planes.specs.Picture.{picture};
-ghost use Rattle.planes.specs.Sizes.{Sized, Long, needed, sizeRules};
+ghost use Rattle.planes.specs.Sizes.{sizeRules};
 ghost use Rattle.admit.specs.Rules.{beyondDepth, pixelPicture, topOf, badOne, sizedAdmission, pictureAdmission, pixelAdmission, sampleAdmission};
 use meter::SampleKind;
 use planes::size::Layout;

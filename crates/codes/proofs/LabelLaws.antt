@@ -1,6 +1,5 @@
 -- A label by its number.
 use mathlib.Core.Path.{_≡_, refl}
-use Prim.Native.Nat.{ℕ}
 use native.Mathlib.Omega.{arith}
 use Rattle.codes.specs.Label.{labelNumber}
 use Rattle.codes.specs.declared.label.Label.{Label}

@@ -8,7 +8,6 @@ use lib.Seq.{ext-getD}
 use Rattle.sample.specs.declared.Pixel.{Pixel}
 use Rattle.tables.specs.Table.{tab}
 use Rattle.tables.proofs.Tables.{length-tab, tab-at, Filled, filled-none, filled-more, filled-all}
-use Rattle.planes.specs.Picture.{sampleOf}
 use Rattle.convert.specs.Row.{pixelIn, converted, rowBy, ConvertedRows, OneWidth}
 
 -- the rows b0, b1, b2 are what f makes of the row a0, a1, a2, as far as index i

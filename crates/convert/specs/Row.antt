@@ -1,7 +1,7 @@
 -- A row of pixels, as three rows of samples, and the row that a conversion makes of it.
 use mathlib.Core.Path.{_≡_}
 use mathlib.Core.Bool.{Bool, true}
-use mathlib.Core.List.{List, [], _∷_}
+use mathlib.Core.List.{List}
 use Prim.Native.Nat.{ℕ, _+_, _-_, _<_}
 use lib.ListN.{length, getD, take, drop}
 use Rattle.sample.specs.declared.Pixel.{Pixel}

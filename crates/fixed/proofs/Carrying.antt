@@ -6,7 +6,7 @@ use Prim.Native.Nat.{ℕ, _+_, _*_, _-_, _/_, _^_, _≤_, _<_, min}
 use native.Mathlib.Nat.{mul-le-mul-left, mul-add-div-right, div-div-eq-div-mul, div-lt-iff-lt-mul}
 use native.Mathlib.Omega.{arith}
 use borrow.Author.Tests.{eqb-true, lt-ltb, le-ltb}
-use lib.Dec.{ltb, eqb}
+use lib.Dec.{eqb}
 use lib.Pow.{pow-mono}
 use Rattle.sample.specs.Depth.{pastSamples}
 use Rattle.sample.specs.declared.Pixel.{Pixel}
@@ -15,7 +15,7 @@ use Rattle.levels.specs.declared.lines.Line.{Line}
 use Rattle.levels.specs.Lines.{lineSample}
 use Rattle.sample.specs.Depth.{UpTo}
 use Rattle.fixed.specs.Numbers.{distance, sumOf, Stands}
-use Rattle.fixed.specs.Words.{pastWords, word, numbersOf, sumsOf, wholeOf, downOf, upOf, sidedSample, raisedSample, wordSample, WholeFits, WordsFit}
+use Rattle.fixed.specs.Words.{pastWords, word, numbersOf, sumsOf, wholeOf, downOf, sidedSample, raisedSample, wordSample, WholeFits, WordsFit}
 use Rattle.fixed.specs.declared.words.Words.{Words}
 use Rattle.fixed.proofs.Standing.{distance-in, sample-below, sample-above, sample-alone}
 

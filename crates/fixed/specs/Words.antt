@@ -1,5 +1,4 @@
 -- What the words of a line say, and when their sums have room.
-use mathlib.Core.Path.{_≡_}
 use mathlib.Core.Bool.{cond}
 use Prim.Native.Nat.{ℕ, _+_, _*_, _-_, _/_, _^_, _≤_, _<_, min}
 use lib.Dec.{ltb, eqb}

@@ -10,7 +10,7 @@ use lib.ListN.{length}
 use Rattle.sample.specs.declared.Pixel.{Pixel}
 use Rattle.tables.specs.Table.{patched, cleared}
 use Rattle.tables.proofs.Tables.{part-width}
-use Rattle.planes.specs.Picture.{Picture, picture, layoutOf, pixelOf, sampleOf, EveryPixel}
+use Rattle.planes.specs.Picture.{Picture, layoutOf, pixelOf, sampleOf, EveryPixel}
 use Rattle.planes.specs.Sizes.{layout, needed, Long, RowStart, Fits}
 use Rattle.planes.specs.declared.size.Layout.{Layout}
 use Rattle.planes.proofs.Painted.{Progress, progress-none, progress-more, Painted, painted-none, painted-more, painted-whole, painted-end}

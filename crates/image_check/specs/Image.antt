@@ -7,7 +7,6 @@ use Rattle.setting.specs.declared.Call.the-variants as call
 use Rattle.setting.specs.declared.Setting.{Setting}
 use Rattle.setting.specs.declared.admission.Admission.{Admission}
 use Rattle.setting.specs.declared.admission.Admission.the-variants as admission
-use Rattle.setting.specs.declared.admission.Served.{Served}
 use Rattle.scan.specs.First.{firstPlace}
 use Rattle.planes.specs.Picture.{Picture, pixelOf}
 use Rattle.scan.specs.declared.Found.{Found}

@@ -1,6 +1,6 @@
 -- Lights of samples within depth stay within reach, so numbers that have room at the end of it have room everywhere.
 use mathlib.Core.Path.{_≡_, sym, ap, _∙_}
-use Prim.Native.Nat.{ℕ, _+_, _*_, _-_, _/_, _^_, _≤_, _<_}
+use Prim.Native.Nat.{ℕ, _+_, _*_, _-_, _^_, _≤_}
 use native.Mathlib.Nat.{mul-le-mul-left}
 use native.Mathlib.Omega.{arith}
 use lib.IntN.{pos, _+ℤ_, _-ℤ_}
@@ -12,7 +12,7 @@ use Rattle.levels.specs.Lines.{added, taken, lineSample, linesPixel}
 use Rattle.levels.specs.declared.lines.Line.{Line}
 use Rattle.levels.specs.declared.lines.Lines.{Lines}
 use Rattle.levels.proofs.Numerators.{sample-in-parts}
-use Rattle.light.specs.Scaled.{wholeOf, scaledSample, Fits}
+use Rattle.light.specs.Scaled.{scaledSample, Fits}
 use Rattle.sample.specs.Depth.{UpTo}
 use Rattle.runs.specs.Light.{lightBy}
 use Rattle.runs.proofs.Mixing.{lit, in-reach}

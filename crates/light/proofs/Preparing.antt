@@ -1,6 +1,6 @@
 -- Planes whose numbers were found stand together for their lines.
 use mathlib.Core.Path.{_≡_, refl, sym, subst, _∙_}
-use Prim.Native.Nat.{ℕ, _*_, _≤_, _<_}
+use Prim.Native.Nat.{_*_, _≤_}
 use native.Mathlib.Nat.{one-mul}
 use native.Mathlib.Omega.{arith}
 use Rattle.levels.specs.declared.lines.Lines.{Lines}

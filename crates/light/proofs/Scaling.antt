@@ -1,8 +1,8 @@
 -- Numbers that stand for a run give the samples of its line: the factor is a little too large, so that the sum is at or past the exact number
 -- on one side of the start and short of it on the other, by less than the exact number can be from the next whole one.
-use mathlib.Core.Path.{_≡_, refl, sym, ap, subst, _∙_}
-use mathlib.Core.Logic.{_⊎_, inl, inr, ⊎-elim}
-use Prim.Native.Nat.{ℕ, zero, suc, _+_, _*_, _-_, _/_, _^_, _≤_, _<_, min}
+use mathlib.Core.Path.{_≡_, ap, _∙_}
+use mathlib.Core.Logic.{_⊎_, ⊎-elim}
+use Prim.Native.Nat.{ℕ, _+_, _*_, _-_, _/_, _^_, _≤_, _<_}
 use native.Mathlib.Nat.{mul-le-mul-left, mul-le-mul, div-div-eq-div-mul, mul-pos}
 use native.Mathlib.Omega.{arith}
 use lib.IntN.{pos, _+ℤ_, _-ℤ_}
@@ -10,7 +10,7 @@ use Rattle.rounding.specs.Rounding.{round, clip}
 use Rattle.rounding.proofs.Floors.{floor-past, floor-short}
 use Rattle.rounding.proofs.Lifted.{Lifted, upward, downward, no-mid}
 use Rattle.sample.proofs.Choices.{below-or-not}
-use Rattle.light.specs.Scaled.{wholeOf, scaledSample, Fits, Scales}
+use Rattle.light.specs.Scaled.{wholeOf, scaledSample, Scales}
 use Rattle.runs.specs.declared.Run.{Run}
 use Rattle.light.specs.declared.scaled.Scaled.{Scaled}
 

@@ -15,7 +15,6 @@ use Rattle.refusal.proofs.RuleLaws.{passed-over}
 use Rattle.sample.proofs.Choices.{both-true}
 use Rattle.nclx.specs.Record.{byteAt, rangeIn, flag, fullIn, CodesFit, Sound, wrongLength, otherLetters, codeAbove, reservedBit, recordRules, readBy, labelIn, labelRead, rangeOf, recordOf}
 use Rattle.nclx.specs.declared.ColourLabel.{ColourLabel}
-use Rattle.nclx.specs.declared.LabelRead.{LabelRead}
 use Rattle.nclx.specs.declared.LabelRead.the-variants as read
 use Rattle.nclx.proofs.RecordLaws.{sound, written}
 

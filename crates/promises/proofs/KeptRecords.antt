@@ -1,5 +1,5 @@
 -- The calls on colour records keep their promises, and so do their exports, by what comes out of their numbers.
-use mathlib.Core.Path.{_≡_, sym, ap, subst, _∙_}
+use mathlib.Core.Path.{sym, ap, subst, _∙_}
 use denote.Ref.{now}
 use Rattle.nclx.specs.Choice.{choice}
 use Rattle.corkplover.specs.RecordPacking.{labelFrom, readIn, checkIn, choiceIn}

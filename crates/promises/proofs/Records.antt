@@ -1,21 +1,20 @@
 -- The calls on colour records keep their promises.
 use mathlib.Core.Path.{_≡_, refl, sym, ap, subst, _∙_}
 use mathlib.Core.Bool.{Bool, true, false, true≢false, cond}
-use mathlib.Core.List.{List, [], _∷_, _++_}
+use mathlib.Core.List.{List}
 use mathlib.Core.Logic.{_↔_}
 use Prim.Native.Nat.{ℕ, _+_, _*_, _/_, _%_, _-_}
 use native.Mathlib.Omega.{arith}
 use lib.ListN.{length, take, length-drop, take-append-drop}
-use Rattle.refusal.specs.Rules.{first, FirstIs, NoneApplies, numbered}
+use Rattle.refusal.specs.Rules.{first, numbered}
 use Rattle.refusal.specs.declared.Check.{Check}
 use Rattle.refusal.specs.declared.Check.the-variants as check
 use Rattle.refusal.specs.declared.Refusal.{Refusal}
-use Rattle.refusal.proofs.RuleLaws.{EveryRule, first-has, never-both, same-refusal, refused-exactly, passed-exactly}
+use Rattle.refusal.proofs.RuleLaws.{EveryRule, first-has, never-both, refused-exactly, passed-exactly}
 use Rattle.tables.specs.Table.{zeros}
-use Rattle.nclx.specs.Record.{wrongLength, recordRules, labelIn, CodesFit, Sound, readBy, labelRead, codeBytes, rangeOf, recordOf, writeRules, writtenInto}
+use Rattle.nclx.specs.Record.{wrongLength, recordRules, labelIn, Sound, readBy, labelRead, recordOf, writeRules, writtenInto}
 use Rattle.nclx.specs.Choice.{containerRules, choiceBy, choice, lastSeven, chosenPart, chosenNumber}
 use Rattle.nclx.specs.declared.ColourLabel.{ColourLabel}
-use Rattle.nclx.specs.declared.LabelRead.{LabelRead}
 use Rattle.nclx.specs.declared.LabelRead.the-variants as read
 use Rattle.nclx.specs.declared.picking.Choice.{Choice}
 use Rattle.nclx.specs.declared.picking.Choice.the-variants as choices

@@ -1,27 +1,25 @@
 -- What a call on colour records packs into one number comes out again.
 use mathlib.Core.Path.{_≡_, refl, ap, _∙_}
 use mathlib.Core.Bool.{cond}
-use mathlib.Core.List.{List, []}
-use Prim.Native.Nat.{ℕ, _<_}
+use mathlib.Core.List.{List}
+use Prim.Native.Nat.{ℕ}
 use native.Mathlib.Omega.{arith}
 use lib.Dec.{eqb}
 use Rattle.sample.specs.Flag.{oneIf}
 use Rattle.sample.proofs.FlagLaws.{one-most, one-out}
-use Rattle.refusal.specs.Rules.{Rule, first}
+use Rattle.refusal.specs.Rules.{first}
 use Rattle.refusal.specs.declared.Check.{Check}
 use Rattle.refusal.specs.declared.Check.the-variants as check
 use Rattle.refusal.specs.declared.Refusal.{Refusal}
-use Rattle.refusal.proofs.RuleLaws.{EveryRule, first-has, never-both}
+use Rattle.refusal.proofs.RuleLaws.{EveryRule, first-has}
 use Rattle.nclx.specs.Record.{recordRules, labelIn, CodesFit, readBy, labelRead, writeRules}
 use Rattle.nclx.specs.Choice.{containerRules, choiceBy, choice}
 use Rattle.nclx.specs.declared.ColourLabel.{ColourLabel}
-use Rattle.nclx.specs.declared.LabelRead.{LabelRead}
 use Rattle.nclx.specs.declared.LabelRead.the-variants as read
-use Rattle.nclx.specs.declared.picking.Choice.{Choice}
 use Rattle.nclx.specs.declared.picking.Choice.the-variants as choices
 use Rattle.nclx.proofs.RecordLaws.{sound}
 use Rattle.corkplover.specs.Meaning.{refusalIn}
-use Rattle.corkplover.specs.Packing.{packed, numberIn, secondIn, packedRefusal}
+use Rattle.corkplover.specs.Packing.{numberIn, packedRefusal}
 use Rattle.corkplover.specs.RecordPacking.{labelFrom, packedRead, packedCheck, packedChoice, readIn, checkIn, choiceIn}
 use Rattle.promises.proofs.Fields.{fields}
 use Rattle.promises.proofs.Refusing.{Other, other}

@@ -1,6 +1,6 @@
 -- Parts that are left out, moved by whole ones and then divided, are one division.
 use mathlib.Core.Path.{_≡_, sym, ap, _∙_}
-use Prim.Native.Nat.{ℕ, _+_, _*_, _-_, _/_, _≤_, _<_}
+use Prim.Native.Nat.{ℕ, _+_, _*_, _-_, _/_, _≤_}
 use native.Mathlib.Nat.{mul-add-div-right, div-div-eq-div-mul, le-div-iff-mul-le}
 use native.Mathlib.Omega.{arith}
 use Rattle.quotients.specs.Quotients.{parts}

@@ -1,26 +1,19 @@
 -- A factor that is exact for a run gives the samples of its line.
-use mathlib.Core.Path.{_≡_, refl, sym, ap, subst, _∙_}
-use Prim.Native.Nat.{ℕ, _+_, _*_, _-_, _/_, _^_, _≤_, _<_, min}
-use native.Mathlib.Nat.{le-trans, mul-le-mul-left, mul-le-mul-right, mul-assoc, div-mul-le-self, div-le-self, le-div-iff-mul-le}
+use mathlib.Core.Path.{_≡_, sym, ap, _∙_}
+use Prim.Native.Nat.{ℕ, _+_, _*_, _-_, _≤_, min}
+use native.Mathlib.Nat.{le-trans, mul-le-mul-left}
 use native.Mathlib.Omega.{arith}
 use lib.IntN.{pos, _+ℤ_, _-ℤ_}
 use Rattle.rounding.specs.Rounding.{round, clip}
 use Rattle.sample.specs.Depth.{UpTo}
 use Rattle.sample.specs.declared.Pixel.{Pixel}
-use Rattle.levels.specs.Conversion.{mostSample}
 use Rattle.levels.specs.Lines.{added, taken, lineSample}
-use Rattle.levels.specs.Room.{Room, AllReady}
 use Rattle.levels.specs.declared.lines.Line.{Line}
-use Rattle.levels.specs.declared.lines.Lines.{Lines}
 use Rattle.levels.proofs.Numerators.{sample-in-parts}
-use Rattle.runs.specs.Found.{RunsFound, PlaneRuns, Mixes}
-use Rattle.runs.specs.Light.{lightBy, blueBy, redBy, Follows}
+use Rattle.runs.specs.Light.{Follows}
 use Rattle.runs.specs.declared.Run.{Run}
-use Rattle.runs.specs.declared.Runs.{Runs}
-use Rattle.runs.proofs.Following.{in-bias}
-use Rattle.runs.proofs.Mixing.{bias-in}
-use Rattle.quotients.specs.Exact.{LumaExact, Testable, Shares}
-use Rattle.quotients.specs.Quotients.{parts, nearestSample, loweredSample}
+use Rattle.quotients.specs.Exact.{LumaExact, Shares}
+use Rattle.quotients.specs.Quotients.{nearestSample, loweredSample}
 use Rattle.quotients.specs.declared.Share.{Share}
 use Rattle.quotients.proofs.Dividing.{nearest-is, there, lowered-is}
 use Rattle.quotients.proofs.Exactness.{exact-is}

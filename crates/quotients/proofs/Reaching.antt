@@ -1,13 +1,12 @@
 -- However far a colour is from the light, there is as much as is taken away.
 use mathlib.Core.Path.{_≡_, sym, ap, _∙_}
-use Prim.Native.Nat.{ℕ, _+_, _*_, _-_, _/_, _≤_, _<_}
+use Prim.Native.Nat.{ℕ, _+_, _*_, _-_, _≤_}
 use native.Mathlib.Nat.{le-trans, mul-le-mul-left}
 use native.Mathlib.Omega.{arith}
 use Rattle.rounding.proofs.Lifted.{div-mono}
 use Rattle.sample.specs.Depth.{UpTo}
 use Rattle.sample.specs.declared.Pixel.{Pixel}
-use Rattle.runs.specs.Light.{lightBy, blueBy, redBy, Weighs}
-use Rattle.runs.specs.declared.mix.Mix.{Mix}
+use Rattle.runs.specs.Light.{blueBy, redBy}
 use Rattle.runs.proofs.Mixing.{least-away, most-away}
 use Rattle.quotients.specs.Quotients.{parts, QuotientsFit}
 use Rattle.quotients.specs.declared.Quotients.{Quotients}

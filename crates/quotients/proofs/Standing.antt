@@ -5,7 +5,7 @@ use native.Mathlib.Nat.{mul-le-mul-right, mul-assoc, div-mul-le-self, div-le-sel
 use native.Mathlib.Omega.{arith}
 use Rattle.sample.specs.Depth.{UpTo}
 use Rattle.sample.specs.declared.Pixel.{Pixel}
-use Rattle.levels.specs.Lines.{lineSample, linesPixel}
+use Rattle.levels.specs.Lines.{lineSample}
 use Rattle.levels.specs.Room.{Room}
 use Rattle.levels.specs.declared.lines.Line.{Line}
 use Rattle.levels.specs.declared.lines.Lines.{Lines}
@@ -17,7 +17,7 @@ use Rattle.runs.specs.declared.mix.Mix.{Mix}
 use Rattle.runs.proofs.Following.{in-bias}
 use Rattle.runs.proofs.Mixing.{bias-in, taken, weighs}
 use Rattle.quotients.specs.Exact.{LumaExact, Testable, Shares}
-use Rattle.quotients.specs.Quotients.{parts, nearestSample, loweredSample, QuotientsFit}
+use Rattle.quotients.specs.Quotients.{nearestSample, loweredSample, QuotientsFit}
 use Rattle.quotients.specs.Standing.{OneTop, Stands}
 use Rattle.quotients.specs.declared.Quotients.{Quotients}
 use Rattle.quotients.specs.declared.Share.{Share}

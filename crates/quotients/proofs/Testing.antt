@@ -1,5 +1,5 @@
 -- Numbers that passed the tests are exact.
-use mathlib.Core.Path.{_≡_, sym, ap, _∙_}
+use mathlib.Core.Path.{_≡_, ap, _∙_}
 use Prim.Native.Nat.{ℕ, _+_, _*_, _-_, _/_, _≤_, _<_}
 use native.Mathlib.Nat.{lt-div-mul-add, div-mul-le-self}
 use native.Mathlib.Omega.{arith}

@@ -1,5 +1,4 @@
 -- What a pixel's light becomes by a factor: n times the factor, in parts of 2^32, is moved by whole parts and then divided by a power of two.
-use mathlib.Core.Path.{_≡_}
 use Prim.Native.Nat.{ℕ, _+_, _*_, _-_, _/_, _^_, _≤_, _<_, min}
 use Rattle.sample.specs.declared.Pixel.{Pixel}
 use Rattle.runs.specs.Light.{lightBy, blueBy, redBy, Weighs}

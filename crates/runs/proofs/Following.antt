@@ -1,12 +1,10 @@
 -- Lines whose weights were found run with the light, and with how far a colour is from it: multiplied out, both sides have the same products.
 use mathlib.Core.Path.{_≡_, ap, sym, _∙_}
-use Prim.Native.Nat.{ℕ, _+_, _*_, _-_, _≤_, _<_}
+use Prim.Native.Nat.{ℕ, _+_, _*_, _-_, _≤_}
 use native.Mathlib.Nat.{mul-le-mul-left}
 use native.Mathlib.Omega.{arith}
-use Rattle.sample.specs.declared.Pixel.{Pixel}
 use Rattle.levels.specs.declared.lines.Line.{Line}
 use Rattle.runs.specs.Found.{blueIn, redIn, Weighed, LumaRun, ColourRun}
-use Rattle.sample.specs.Depth.{UpTo}
 use Rattle.runs.specs.Light.{lightBy, blueBy, redBy, Follows}
 use Rattle.runs.specs.declared.weights.Weights.{Weights}
 use Rattle.runs.specs.declared.Run.{Run}

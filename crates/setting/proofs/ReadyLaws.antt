@@ -6,7 +6,7 @@ use native.Mathlib.Omega.{arith}
 use borrow.Author.Needs.{needs}
 use borrow.Author.Tests.{eqb-true, leb-true, not-false}
 use lib.Dec.{eqb, leb}
-use Rattle.sample.specs.Depth.{mostLevelDepth, areDepths, atMost, ThreeDepths}
+use Rattle.sample.specs.Depth.{mostLevelDepth, areDepths, ThreeDepths}
 use Rattle.sample.specs.declared.Depths.{Depths}
 use Rattle.sample.proofs.DepthLaws.{AtMost, depths-of, at-most-of}
 use Rattle.sample.proofs.Choices.{both-true}

@@ -1,7 +1,7 @@
 -- The lossless formulas lose nothing: every sample fits its plane, and reverse after forward is the pixel.
 -- Forward gives y = (g + t) / 2, cb = g + H − t and cr = r + H − b with t = (r + b) / 2, and H is above every sample.
 use mathlib.Core.Path.{_≡_, refl, ap, _∙_, subst}
-use Prim.Native.Nat.{ℕ, _+_, _-_, _/_, _^_, _≤_}
+use Prim.Native.Nat.{ℕ, _+_, _-_, _/_}
 use native.Mathlib.Omega.{arith}
 use lib.IntN.{pos, _+ℤ_, _-ℤ_}
 use lib.Pow.{pow-mono}

@@ -1,5 +1,5 @@
 -- `admit::admit_sizes` meets its contract: the rules on the setting, and then those on the sizes.
-use mathlib.Core.Path.{_≡_, refl, sym, _∙_}
+use mathlib.Core.Path.{refl, sym, _∙_}
 use borrow.Author.Needs.{needs}
 use Rattle.admit.proofs.AdmitLaws.{not-past, by-size, past-setting, served-setting}
 use Rattle.admit.proofs.admit_sizes.Statement.{statement}

@@ -1,14 +1,13 @@
 -- `case_words::plane` meets its contract: after i turns i samples are read, and what stood behind them is as it was.
 use mathlib.Core.Path.{_≡_, refl, sym, ap, _∙_}
-use mathlib.Core.List.{List, _++_}
+use mathlib.Core.List.{List}
 use Prim.Native.Nat.{ℕ, _+_, _≤_, _<_, _-_}
 use native.Mathlib.Numerals.{add-one}
 use native.Mathlib.Omega.{arith}
 use denote.Ref.{now}
-use lib.ListN.{length as size, take, drop, set, take-append-drop}
+use lib.ListN.{length as size, drop, set, take-append-drop}
 use lib.Seq.{drop-drop, drop-set-lt}
 use borrow.Author.Needs.{needs}
-use Rattle.tables.specs.Table.{tab}
 use Rattle.tables.proofs.Tables.{Filled, filled-none, filled-more}
 use Rattle.request.specs.Form.{largestSample}
 use Rattle.case_words.specs.Lines.{stepAt, positionAfter, sampleAfter, planeAt, planeOver}

@@ -1,9 +1,8 @@
 -- `quotients::parts_of` meets its contract: two numbers of 32 bits have a product of 64, and its upper half is less than either.
 use mathlib.Core.Path.{refl}
 use Prim.Native.Nat.{_+_, _*_, _/_, _≤_, _<_}
-use native.Mathlib.Nat.{mul-le-mul, mul-le-mul-right, div-mul-le-self, div-lt-iff-lt-mul}
+use native.Mathlib.Nat.{mul-le-mul, mul-le-mul-right, div-lt-iff-lt-mul}
 use native.Mathlib.Omega.{arith}
-use borrow.Author.Needs.{needs}
 use Rattle.quotients.proofs.parts_of.Statement.{statement}
 use Rattle.quotients.proofs.parts_of.Tie as tie
 

@@ -1,5 +1,5 @@
 -- `row_plan::plan_rows` meets its contract: the plan of the conversion does it, and what does the same to the same pixels does it too.
-use mathlib.Core.Path.{_∙_, subst}
+use mathlib.Core.Path.{subst}
 use borrow.Author.Needs.{needs}
 use Rattle.setting.specs.Call.{inputOf}
 use Rattle.plan.specs.Conversion.{convert}

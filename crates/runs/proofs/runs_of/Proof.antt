@@ -1,6 +1,6 @@
 -- `runs::runs_of` meets its contract: lines that have room leave room for their weights, and each plane whose run was found runs with its number.
-use mathlib.Core.Path.{_≡_, refl, sym, ap, _∙_}
-use Prim.Native.Nat.{_+_, _*_, _<_}
+use mathlib.Core.Path.{_≡_, refl, sym, ap}
+use Prim.Native.Nat.{_+_, _*_}
 use native.Mathlib.Omega.{arith}
 use borrow.Author.Needs.{needs}
 use Rattle.runs.specs.Found.{blueIn, redIn, ColourRun}

@@ -3,7 +3,7 @@ use mathlib.Core.Path.{_≡_, ap, _∙_}
 use Prim.Native.Nat.{_+_, _-_}
 use native.Mathlib.Omega.{arith}
 use borrow.Author.Needs.{needs}
-use lib.ListN.{length, take, drop}
+use lib.ListN.{take, drop}
 use Rattle.sample.specs.declared.Pixel.{Pixel}
 use Rattle.tables.proofs.Tables.{part-width}
 use Rattle.scan.specs.First.{largestPixel}

@@ -1,5 +1,5 @@
 -- `case_words::records::record_at` meets its contract: its numbers are read as a plane's, over zeros.
-use mathlib.Core.Path.{_≡_, ap, _∙_}
+use mathlib.Core.Path.{ap, _∙_}
 use borrow.Author.Needs.{needs}
 use lib.ListN.{length}
 use Rattle.tables.specs.Table.{tab}

@@ -1,11 +1,10 @@
 -- `convert::back::lossless` meets its contract: with each turn the bits are gathered from one pixel more.
-use mathlib.Core.Path.{_≡_, refl, sym, subst}
-use Prim.Native.Nat.{_≤_, _<_, _-_}
+use mathlib.Core.Path.{_≡_, refl}
+use Prim.Native.Nat.{_≤_, _-_}
 use native.Mathlib.Omega.{arith}
 use borrow.Author.Needs.{needs}
 use borrow.Author.Tests.{eqb-true}
 use lib.ListN.{length}
-use Rattle.sample.specs.Depth.{InsideRGB}
 use Rattle.ycgco.specs.YCgCo.{losslessForward, losslessReverse}
 use Rattle.convert.proofs.BackLaws.{BackUntil, back-none, back-more}
 use Rattle.convert.proofs.back.lossless.Statement.{statement}

@@ -3,8 +3,8 @@
 use mathlib.Core.Path.{sym, subst}
 use mathlib.Core.Bool.{true≢false}
 use borrow.Author.Needs.{needs}
-use Rattle.plan.specs.Plan.{planned, Roomy, Takes}
-use Rattle.convert.specs.Row.{pixelIn, KnownBack}
+use Rattle.plan.specs.Plan.{Roomy}
+use Rattle.convert.specs.Row.{pixelIn}
 use Rattle.convert.proofs.BackLaws.{same-itself}
 use Rattle.convert.proofs.back.row_comes_back.Statement.{statement}
 use Rattle.convert.proofs.back.row_comes_back.Tie as tie

@@ -1,5 +1,5 @@
 -- `light::numbers::finished` meets its contract: what each step found is what the numbers have to be.
-use mathlib.Core.Path.{_≡_, refl}
+use mathlib.Core.Path.{refl}
 use native.Mathlib.Omega.{arith}
 use borrow.Author.Needs.{needs}
 use Rattle.light.proofs.Numbering.{Sums, sums, start-below}

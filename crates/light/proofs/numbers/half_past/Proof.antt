@@ -1,5 +1,5 @@
 -- `light::numbers::half_past` meets its contract: a half unit of n or less can be doubled, for n has fewer than 62 bits.
-use mathlib.Core.Path.{_≡_, refl, ap, _∙_}
+use mathlib.Core.Path.{_≡_, refl}
 use Prim.Native.Nat.{ℕ, _+_, _*_, _-_, _^_, _≤_, _<_}
 use native.Mathlib.Nat.{pow-succ', lt-of-not-le}
 use native.Mathlib.Numerals.{add-one}

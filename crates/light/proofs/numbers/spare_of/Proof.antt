@@ -3,7 +3,6 @@ use mathlib.Core.Path.{refl}
 use mathlib.Core.Logic.{inl, inr}
 use native.Mathlib.Nat.{le-refl}
 use native.Mathlib.Omega.{arith}
-use borrow.Author.Needs.{needs}
 use Rattle.light.proofs.numbers.spare_of.Statement.{statement}
 use Rattle.light.proofs.numbers.spare_of.Tie as tie
 

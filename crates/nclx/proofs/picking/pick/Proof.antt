@@ -1,7 +1,6 @@
 -- `nclx::picking::pick` meets its contract: it asks as the definition does.
-use mathlib.Core.Path.{_≡_, sym, ap, _∙_}
 use borrow.Author.Needs.{needs}
-use Rattle.nclx.specs.Choice.{choiceBy, choice}
+use Rattle.nclx.specs.Choice.{choice}
 use Rattle.nclx.proofs.picking.pick.Statement.{statement}
 use Rattle.nclx.proofs.picking.pick.Tie as tie
 

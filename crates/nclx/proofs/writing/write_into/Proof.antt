@@ -1,5 +1,5 @@
 -- `nclx::writing::write_into` meets its contract: a buffer of the record's length is filled with it, and any other with zeros.
-use mathlib.Core.Path.{_≡_, refl, ap, _∙_}
+use mathlib.Core.Path.{_≡_, refl, _∙_}
 use mathlib.Core.List.{List, []}
 use Prim.Native.Nat.{ℕ}
 use borrow.Author.Needs.{needs}

@@ -1,5 +1,4 @@
 -- `quotients::numbers::luma_factor` meets its contract: a quotient and one more is a little past the unit, and what it has too much was tested.
-use mathlib.Core.Path.{_≡_}
 use Prim.Native.Nat.{_+_, _*_, _-_, _/_, _≤_, _<_}
 use native.Mathlib.Nat.{mul-le-mul, mul-pos, div-le-self}
 use native.Mathlib.Omega.{arith}

@@ -1,5 +1,5 @@
 -- `quotients::numbers::miss_of` meets its contract: a factor of 32 bits and a light of 28 have room, and so have the parts of a share that is not too large.
-use Prim.Native.Nat.{_*_, _≤_}
+use Prim.Native.Nat.{_≤_}
 use native.Mathlib.Nat.{mul-le-mul}
 use native.Mathlib.Omega.{arith}
 use borrow.Author.Needs.{needs}

@@ -1,5 +1,5 @@
 -- `quotients::numbers::rest_of` meets its contract: two numbers of 32 bits have a product of 64.
-use Prim.Native.Nat.{_*_, _≤_}
+use Prim.Native.Nat.{_≤_}
 use native.Mathlib.Nat.{mul-le-mul}
 use native.Mathlib.Omega.{arith}
 use borrow.Author.Needs.{needs}

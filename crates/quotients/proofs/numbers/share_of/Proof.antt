@@ -1,5 +1,4 @@
 -- `quotients::numbers::share_of` meets its contract: a share that was not refused passed the tests.
-use mathlib.Core.Path.{_≡_}
 use Prim.Native.Nat.{ℕ, zero, suc, _*_, _≤_, _<_}
 use native.Mathlib.Nat.{mul-le-mul, mul-le-mul-left, le-trans}
 use native.Mathlib.Omega.{arith}
