@@ -1,7 +1,6 @@
 -- `setting::admission::admit_depths` meets its contract: each test that was passed takes one rule away.
 use mathlib.Core.Path.{◌≡◌, sym, ap, ◌∙◌}
 use mathlib.Core.Bool.{Bool, true, false}
-use borrow.Author.Rules.{rules}
 use borrow.Author.Tests.{not-true, not-false}
 use Rattle.sample.specs.declared.Depths.{Depths}
 use Rattle.sample.specs.declared.DepthsChecked.TheVariants as checked
@@ -13,8 +12,8 @@ use Rattle.setting.specs.Agreement.{depths_served, agree, answers}
 use Rattle.setting.specs.Rules.{depths, depth_rules, served_depths}
 use Rattle.setting.specs.declared.Call.{Call}
 use Rattle.setting.specs.declared.Setting.{Setting}
-use Rattle.setting.proofs.admission.admit_depths.Statement.{statement}
-use Rattle.setting.proofs.admission.admit_depths.Tie as tie
+use Rattle.setting.proofs.admission.admit_depths.Goals as goal
+use Rattle.setting.proofs.admission.admit_depths.Goals.{In-Depths}
 
 module _ (call : Call) (e : Entry) (s : Setting) where
   abbrev Fit : Bool
@@ -54,45 +53,39 @@ module _ (call : Call) (e : Entry) (s : Setting) where
   answered : (d : Depths) (a t : Bool) → depths s ≡ d → a ≡ answers call e d → a ≡ t → answers call e (depths s) ≡ t
   answered d a t k h q = ap (answers call e) k ∙ sym h ∙ q
 
-returns : tie.Need-returns
-returns c =
-    let a = c.before.before.before.before.args in
-    rw (c.refused.ensures, rule_6 a.call a.e a.s (not_fit a.call a.e a.s (sym c.before.before.before.served-depths.ensures ∙ c.before.enum_told.given.1)))
+pub returns-in_default : goal.returns-in_default
+returns-in_default c =
+    let a = c.args in
+    rw (c.refused.ensures, rule_6 a.call a.e a.s (not_fit a.call a.e a.s (sym c.served_depths.ensures ∙ c.in_default.is)))
 
 -- past the check of depths
-known : (c : tie.After-depths) → let a = c.before.before.before.args in (Fit a.call a.e a.s ≡ true) × (depths a.s ≡ c.depths.given.0.0)
-known c = let a = c.before.before.before.args in fit a.call a.e a.s _ (sym c.before.before.served-depths.ensures ∙ c.depths.given.1)
+known : (c : In-Depths) → let a = c.args in (Fit a.call a.e a.s ≡ true) × (depths a.s ≡ c.in-Depths.depths)
+known c = let a = c.args in fit a.call a.e a.s _ (sym c.served_depths.ensures ∙ c.in-Depths.is)
 
-returns-2 : tie.Need-returns-2
-returns-2 c =
-    let a = c.before.before.before.before.before.before.before.args in
-    let k = known c.before.before.before.before in
-    rw (c.refused2.ensures, rule_7 a.call a.e a.s k.0 (agreed a.call a.e a.s _ _ _ k.1 c.before.before.agree.ensures (not-true _ c.before.if1.true)))
+pub returns-then-not-agree : goal.returns-then-not-agree
+returns-then-not-agree c =
+    let a = c.args in
+    let k = known ((goal.at.returns-then-not-agree c).In-Depths) in
+    rw (c.refused-then-not-agree.ensures, rule_7 a.call a.e a.s k.0 (agreed a.call a.e a.s _ _ _ k.1 c.agree.ensures c.if-not-agree.true))
 
-returns-3 : tie.Need-returns-3
-returns-3 c =
-    let a = c.before.before.before.before.before.before.before.before.before.args in
-    let k = known c.before.before.before.before.before.before in
+pub returns-then-not-answers : goal.returns-then-not-answers
+returns-then-not-answers c =
+    let a = c.args in
+    let k = known ((goal.at.returns-then-not-answers c).In-Depths) in
     rw (
-      c.refused3.ensures,
+      c.refused-then-not-answers.ensures,
       rule_11 a.call a.e a.s k.0
-          (agreed a.call a.e a.s _ _ _ k.1 c.before.before.before.before.agree.ensures (not-false _ c.before.before.before.if1.false))
-          (answered a.call a.e a.s _ _ _ k.1 c.before.before.answers.ensures (not-true _ c.before.if2.true)),
+          (agreed a.call a.e a.s _ _ _ k.1 c.agree.ensures c.if-not-agree.false)
+          (answered a.call a.e a.s _ _ _ k.1 c.answers.ensures c.if-not-answers.true),
     )
 
-returns-4 : tie.Need-returns-4
-returns-4 c =
-    let a = c.before.before.before.before.before.before.before.before.args in
-    let k = known c.before.before.before.before.before in
+pub returns : goal.returns
+returns c =
+    let a = c.args in
+    let k = known ((goal.at.returns c).In-Depths) in
     rw (
       no_rule a.call a.e a.s k.0
-          (agreed a.call a.e a.s _ _ _ k.1 c.before.before.before.agree.ensures (not-false _ c.before.before.if1.false))
-          (answered a.call a.e a.s _ _ _ k.1 c.before.answers.ensures (not-false _ c.if2.false)),
+          (agreed a.call a.e a.s _ _ _ k.1 c.agree.ensures c.if-not-agree.false)
+          (answered a.call a.e a.s _ _ _ k.1 c.answers.ensures c.if-not-answers.false),
       k.1,
     )
-
-pub admit-depths-spec : {M : Type 1} → statement M
-admit-depths-spec =
-    tie.close
-    (tie.spec (λ c κs. search rules) (λ c. search rules) (λ c. search rules) (λ c κs. search rules) returns
-    (λ c κs. search rules) (λ c κs. search rules) returns-2 (λ c κs. search rules) (λ c κs. search rules) returns-3 returns-4)

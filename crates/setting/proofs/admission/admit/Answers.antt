@@ -2,7 +2,6 @@
 -- what it means there.
 use mathlib.Core.Path.{◌≡◌, sym, ap, ◌∙◌}
 use mathlib.Core.List.{◌∷◌}
-use borrow.Author.Rules.{rules}
 use Rattle.refusal.specs.Rules.{rule, first, numbered}
 use Rattle.codes.specs.Edition.{edition_of}
 use Rattle.codes.specs.Matrix.{matrix_of}
@@ -16,8 +15,7 @@ use Rattle.setting.specs.declared.Call.{Call}
 use Rattle.setting.specs.declared.Setting.{Setting}
 use Rattle.setting.specs.declared.admission.Admission.{Admission}
 use Rattle.setting.specs.declared.admission.Admission.TheVariants as admission
-use Rattle.setting.proofs.admission.admit.Statement.{statement}
-use Rattle.setting.proofs.admission.admit.Tie as tie
+use Rattle.setting.proofs.admission.admit.Goals as goal
 
 -- the answer by the edition, and past its rule by what the code means
 abbrev answer : Call → Setting → EditionChecked → Admission
@@ -38,19 +36,12 @@ went_on : (call : Call) (s : Setting) {r : Admission} {m : Matrix} {e : EditionC
 unfolding setting_admission first
 went_on call s h m e f = h ∙ ap (later call s) m ∙ ap (answer call s) (sym f ∙ e)
 
-returns : tie.Need-returns
+pub returns-in_default : goal.returns-in_default
+returns-in_default c =
+    let a = c.args in
+    refused a.call a.s c.without_edition.ensures c.edition_of.ensures c.in_default.is
+
+pub returns : goal.returns
 returns c =
-    let a = c.before.before.before.before.args in
-    refused a.call a.s c.without-edition.ensures c.before.before.before.edition-of.ensures c.before.enum_told.given.1
-
-returns-2 : tie.Need-returns-2
-returns-2 c =
-    let known = c.before.before.before in
-    let a = known.before.before.before.args in
-    went_on a.call a.s c.admit-matrix.ensures c.before.matrix-of.ensures known.before.before.edition-of.ensures known.edition.given.1
-
-pub admit-spec : {M : Type 1} → statement M
-admit-spec =
-    tie.close
-    (tie.spec (λ c κs. search rules) (λ c. search rules) (λ c. search rules) (λ c κs. search rules) returns
-    (λ c κs. search rules) (λ c κs. search rules) returns-2)
+    let a = c.args in
+    went_on a.call a.s c.admit_matrix.ensures c.matrix_of.ensures c.edition_of.ensures c.in-Edition.is

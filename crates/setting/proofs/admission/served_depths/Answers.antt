@@ -2,15 +2,14 @@
 use mathlib.Core.Path.{◌≡◌, sym, ap, ◌∙◌}
 use mathlib.Core.Bool.{Bool, true, false}
 use Prim.Native.Nat.{ℕ}
-use borrow.Author.Rules.{rules}
 use Rattle.sample.specs.Depth.{are_depths, at_most, depths_of, depths_checked}
 use Rattle.sample.specs.declared.Depths.{Depths}
 use Rattle.sample.specs.declared.DepthsChecked.TheVariants as checked
 use Rattle.sample.proofs.DepthLaws.{was_outside, were_depths}
 use Rattle.setting.specs.Agreement.{depths_served}
 use Rattle.setting.specs.Rules.{served_depths}
-use Rattle.setting.proofs.admission.served_depths.Statement.{statement}
-use Rattle.setting.proofs.admission.served_depths.Tie as tie
+use Rattle.setting.proofs.admission.served_depths.Goals as goal
+use Rattle.setting.proofs.admission.served_depths.Goals.{In-Depths}
 
 not_depths : (r y c : ℕ) → depths_checked r y c ≡ checked.Outside → are_depths r y c ≡ false
 unfolding depths_checked
@@ -28,34 +27,28 @@ outside : (most r y c : ℕ) → depths_served most r y c ≡ false → checked.
 unfolding served_depths
 outside most r y c e = rw e
 
-returns : tie.Need-returns
+pub returns-in_default : goal.returns-in_default
 unfolding depths_served
-returns c =
-    let a = c.before.before.before.args in
+returns-in_default c =
+    let a = c.args in
     outside a.deepest a.rgb a.luma a.chroma
-    (rw (not_depths a.rgb a.luma a.chroma (sym c.before.before.checked.ensures ∙ c.enum_told.given.1)))
+    (rw (not_depths a.rgb a.luma a.chroma (sym c.checked.ensures ∙ c.in_default.is)))
 
 -- past the check, the depths are those of the setting
-known : (c : tie.After-depths) → let a = c.before.before.before.args in (are_depths a.rgb a.luma a.chroma ≡ true) × (depths_of a.rgb a.luma a.chroma ≡ c.depths.given.0.0)
-known c = are_depths_lem _ _ _ _ (sym c.before.before.checked.ensures ∙ c.depths.given.1)
+known : (c : In-Depths) → let a = c.args in (are_depths a.rgb a.luma a.chroma ≡ true) × (depths_of a.rgb a.luma a.chroma ≡ c.in-Depths.depths)
+known c = are_depths_lem _ _ _ _ (sym c.checked.ensures ∙ c.in-Depths.is)
 
-returns-2 : tie.Need-returns-2
+pub returns-then-at_most : goal.returns-then-at_most
 unfolding served_depths depths_served
-returns-2 c =
-    let a = c.before.before.before.before.before.before.args in
-    let k = known c.before.before.before in
-    rw (k.0, limit a.deepest _ _ _ _ k.1 c.before.at_most_lem.ensures c.if1.true) (ap checked.Depths (sym k.1))
+returns-then-at_most c =
+    let a = c.args in
+    let k = known ((goal.at.returns-then-at_most c).In-Depths) in
+    rw (k.0, limit a.deepest _ _ _ _ k.1 c.at_most.ensures c.if-at_most.true) (ap checked.Depths (sym k.1))
 
-returns-3 : tie.Need-returns-3
+pub returns : goal.returns
 unfolding depths_served
-returns-3 c =
-    let a = c.before.before.before.before.before.before.args in
-    let k = known c.before.before.before in
+returns c =
+    let a = c.args in
+    let k = known ((goal.at.returns c).In-Depths) in
     outside a.deepest a.rgb a.luma a.chroma
-    (rw k.0 (limit a.deepest _ _ _ _ k.1 c.before.at_most_lem.ensures c.if1.false))
-
-pub served-depths-spec : {M : Type 1} → statement M
-served-depths-spec =
-    tie.close
-    (tie.spec (λ c κs. search rules) (λ c. search rules) (λ c. search rules) returns (λ c κs. search rules) returns-2
-    returns-3)
+    (rw k.0 (limit a.deepest _ _ _ _ k.1 c.at_most.ensures c.if-at_most.false))

@@ -1,7 +1,6 @@
 -- `setting::admission::admit_entry` meets its contract: rules 4 and 5, and where neither applies those on depths.
 use mathlib.Core.Path.{◌≡◌, sym, ap, ◌∙◌}
 use mathlib.Core.Bool.{Bool, true, false}
-use borrow.Author.Rules.{rules}
 use Rattle.refusal.specs.Rules.{first, numbered}
 use Rattle.refusal.specs.declared.Check.TheVariants.{Refused}
 use Rattle.codes.specs.Label.{is_reserved, primaries_label, transfer_label}
@@ -10,8 +9,7 @@ use Rattle.codes.specs.declared.matrix.Entry.{Entry}
 use Rattle.setting.specs.Rules.{depth_rules, entry_rules}
 use Rattle.setting.specs.declared.Call.{Call}
 use Rattle.setting.specs.declared.Setting.{Setting}
-use Rattle.setting.proofs.admission.admit_entry.Statement.{statement}
-use Rattle.setting.proofs.admission.admit_entry.Tie as tie
+use Rattle.setting.proofs.admission.admit_entry.Goals as goal
 
 -- a label's test, from the calls that made it
 tested : {l k : Label} {b t : Bool} → l ≡ k → b ≡ is_reserved l → b ≡ t → is_reserved k ≡ t
@@ -32,33 +30,27 @@ module _ (call : Call) (e : Entry) (s : Setting) where
   unfolding first
   later f g = rw (f, g)
 
-returns : tie.Need-returns
-returns c =
-    let a = c.before.before.before.before.args in
-    rw (c.refused.ensures, rule_4 a.call a.e a.s (tested c.before.before.before.primaries-label.ensures c.before.before.is-reserved.ensures c.before.if1.true))
+pub returns-then-is_reserved : goal.returns-then-is_reserved
+returns-then-is_reserved c =
+    let a = c.args in
+    rw (c.refused.ensures, rule_4 a.call a.e a.s (tested c.primaries_label.ensures c.is_reserved.ensures c.if-is_reserved.true))
 
-returns-2 : tie.Need-returns-2
-returns-2 c =
-    let a = c.before.before.before.before.before.before.before.args in
+pub returns-then-is_reserved-2 : goal.returns-then-is_reserved-2
+returns-then-is_reserved-2 c =
+    let a = c.args in
     rw (
-      c.refused2.ensures,
+      c.refused-then-is_reserved-2.ensures,
       rule_5 a.call a.e a.s
-          (tested c.before.before.before.before.before.before.primaries-label.ensures c.before.before.before.before.before.is-reserved.ensures c.before.before.before.before.if1.false)
-          (tested c.before.before.before.transfer-label.ensures c.before.before.is-reserved2.ensures c.before.if2.true),
+          (tested c.primaries_label.ensures c.is_reserved.ensures c.if-is_reserved.false)
+          (tested c.transfer_label.ensures c.is_reserved-2.ensures c.if-is_reserved-2.true),
     )
 
-returns-3 : tie.Need-returns-3
-returns-3 c =
-    let a = c.before.before.before.before.before.before.before.args in
+pub returns : goal.returns
+returns c =
+    let a = c.args in
     rw (
     later a.call a.e a.s
-    (tested c.before.before.before.before.before.before.primaries-label.ensures c.before.before.before.before.before.is-reserved.ensures c.before.before.before.before.if1.false)
-    (tested c.before.before.before.transfer-label.ensures c.before.before.is-reserved2.ensures c.before.if2.false)
+    (tested c.primaries_label.ensures c.is_reserved.ensures c.if-is_reserved.false)
+    (tested c.transfer_label.ensures c.is_reserved-2.ensures c.if-is_reserved-2.false)
     )
-    c.admit-depths.ensures
-
-pub admit-entry-spec : {M : Type 1} → statement M
-admit-entry-spec =
-    tie.close
-    (tie.spec (λ c κs. search rules) (λ c κs. search rules) (λ c κs. search rules) returns (λ c κs. search rules)
-    (λ c κs. search rules) (λ c κs. search rules) returns-2 (λ c κs. search rules) returns-3)
+    c.admit_depths.ensures
