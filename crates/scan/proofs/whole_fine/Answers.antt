@@ -4,23 +4,18 @@ use mathlib.Core.Bool.{true≢false}
 use Prim.Native.Nat.{◌+◌, ◌*◌}
 use native.Mathlib.Nat.{zero-add}
 use native.Mathlib.Omega.{arith}
-use borrow.Author.Rules.{rules}
 use borrow.Author.Tests.{leb-true}
 use Rattle.scan.proofs.Searches.{part_fine}
 use Rattle.planes.proofs.SizeLaws.{index_inside}
-use Rattle.scan.proofs.whole_fine.Statement.{statement}
-use Rattle.scan.proofs.whole_fine.Tie as tie
+use Rattle.scan.proofs.whole_fine.Goals as goal
 
-returns-2 : tie.Need-returns-2
-returns-2 c e j i h k =
-    let a = c.before.before.before.before.before.args in
+pub returns : goal.returns
+returns c e j i h k =
+    let a = c.args in
     let within = index_inside a.width a.height a.stride j i h k in
-    let start = c.before.before.row_start in
+    let start = c.row_start in
     part_fine a.p.now a.stride j i 0 (start.result + a.width) (j * a.stride + i) a.top c.largest.result (zero-add _) (omega (arith, start.ensures.is))
     (omega arith) (omega arith) c.largest.ensures (leb-true _ _ e)
 
-pub whole-fine-spec : {M : Type 1} → statement M
-whole-fine-spec =
-    tie.close
-    (tie.spec (λ c e. absurd (true≢false (sym e))) (λ c. search rules) (λ c κs. search rules) (λ c. search rules) (λ c. search rules)
-    (λ c. search rules) (λ c. search rules) (λ c. search rules) (λ c κs. search rules) returns-2)
+pub returns-then-stride-width : goal.returns-then-stride-width
+returns-then-stride-width c e = absurd (true≢false (sym e))

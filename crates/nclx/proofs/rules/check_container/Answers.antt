@@ -3,7 +3,6 @@ use mathlib.Core.Path.{◌≡◌, sym, ap, ◌∙◌}
 use mathlib.Core.Bool.{true, false}
 use mathlib.Core.List.{List, [], ◌∷◌}
 use Prim.Native.Nat.{ℕ}
-use borrow.Author.Rules.{rules}
 use Rattle.refusal.specs.Rules.{rule, first, or_else, numbered}
 use Rattle.refusal.specs.declared.Check.{Check}
 use Rattle.refusal.specs.declared.Check.TheVariants.{Passed, Refused}
@@ -12,8 +11,7 @@ use Rattle.refusal.proofs.RuleLaws.{first_append}
 use Rattle.nclx.specs.Record.{record_rules}
 use Rattle.nclx.specs.Choice.{unspecified_code, container_rules}
 use Rattle.nclx.proofs.RecordLaws.{sound}
-use Rattle.nclx.proofs.rules.check_container.Statement.{statement}
-use Rattle.nclx.proofs.rules.check_container.Tie as tie
+use Rattle.nclx.proofs.rules.check_container.Goals as goal
 
 module _ (bytes : List ℕ) where
   -- the container's check, by that of every record
@@ -31,24 +29,16 @@ module _ (bytes : List ℕ) where
   unfolding first
   named e f g = rw (by_record e, f, g)
 
-unspecified-code-requires : tie.Need-unspecified-code-requires
-unspecified-code-requires c κs = (sound _ (sym c.before.before.check-record.ensures ∙ c.enum_told.given.1)).whole
+pub unspecified_code-requires : goal.unspecified_code-requires
+unspecified_code-requires c = (sound _ (sym c.check_record.ensures ∙ c.in-Passed.is)).whole
 
-returns : tie.Need-returns
-returns c =
-    let d = c.before.before.before in
-    c.refused.ensures ∙ sym (unspecified _ d.before.before.check-record.ensures d.enum_told.given.1 (sym c.before.before.unspecified-code.ensures ∙ c.before.if1.true))
+pub returns-then-unspecified_code : goal.returns-then-unspecified_code
+returns-then-unspecified_code c =
+    c.refused.ensures ∙ sym (unspecified _ c.check_record.ensures c.in-Passed.is (sym c.unspecified_code.ensures ∙ c.if-unspecified_code.true))
 
-returns-2 : tie.Need-returns-2
-returns-2 c = sym (refused _ c.before.before.before.check-record.ensures c.before.refusal.given.1)
+pub returns-in-Refused : goal.returns-in-Refused
+returns-in-Refused c = sym (refused _ c.check_record.ensures c.in-Refused.is)
 
-returns-3 : tie.Need-returns-3
-returns-3 c =
-    let d = c.before.before in
-    sym (named _ d.before.before.check-record.ensures d.enum_told.given.1 (sym c.before.unspecified-code.ensures ∙ c.if1.false))
-
-pub check-container-spec : {M : Type 1} → statement M
-check-container-spec =
-    tie.close
-    (tie.spec (λ c κs. search rules) (λ c. search rules) (λ c. search rules) unspecified-code-requires (λ c κs. search rules) returns
-    returns-2 returns-3)
+pub returns-else-unspecified_code : goal.returns-else-unspecified_code
+returns-else-unspecified_code c =
+    sym (named _ c.check_record.ensures c.in-Passed.is (sym c.unspecified_code.ensures ∙ c.if-unspecified_code.false))

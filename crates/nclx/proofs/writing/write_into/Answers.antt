@@ -2,7 +2,6 @@
 use mathlib.Core.Path.{◌≡◌, refl, ◌∙◌}
 use mathlib.Core.List.{List, []}
 use Prim.Native.Nat.{ℕ}
-use borrow.Author.Rules.{rules}
 use borrow.Author.Tests.{eq-eqb, ne_eqb}
 use lib.ListN.{length}
 use Rattle.refusal.specs.Rules.{first, numbered}
@@ -13,8 +12,7 @@ use Rattle.tables.specs.Table.{tab}
 use Rattle.nclx.specs.Record.{record_bytes, byte_at, wrong_length, record_of, write_rules, written_into}
 use Rattle.nclx.specs.declared.ColourLabel.{ColourLabel}
 use Rattle.nclx.proofs.RecordLaws.{table_of}
-use Rattle.nclx.proofs.writing.write_into.Statement.{statement}
-use Rattle.nclx.proofs.writing.write_into.Tie as tie
+use Rattle.nclx.proofs.writing.write_into.Goals as goal
 
 abbrev Left : ColourLabel → List ℕ → Check → List ℕ → Type 0
 Left l out r new = (r ≡ first (write_rules out)) × (new ≡ written_into l out)
@@ -29,20 +27,14 @@ filled : (l : ColourLabel) (out new : List ℕ) {bytes : List ℕ} → length ou
 unfolding first wrong_length written_into
 filled l out new h b e = rw (eq-eqb _ _ h) (refl, e ∙ (λ i. tab (h i) (byte_at (b i))) ∙ table_of (record_of l))
 
-returns : tie.Need-returns
+pub returns-then-out-ne-RECORD_BYTES : goal.returns-then-out-ne-RECORD_BYTES
+returns-then-out-ne-RECORD_BYTES c =
+    let a = c.args in
+    let left = zeroed a.label a.out.now _ c.if-out-ne-RECORD_BYTES.true c.numbered.ensures c.fill.ensures in
+    record { value = left.0; out_after = left.1 }
+
+pub returns : goal.returns
 returns c =
-    let d = c.before.before.before.before.before.before in
-    let a = d.before.before.args in
-    zeroed a.label a.out.now _ d.if1.true c.numbered.ensures c.before.before.before.fill.ensures
-
-returns-2 : tie.Need-returns-2
-returns-2 c =
-    let d = c.before.before.before.before.before.before in
-    let a = d.before.before.args in
-    filled a.label a.out.now _ d.if1.false c.before.before.before.before.before.write.ensures c.before.before.fill2.ensures
-
-pub write_into_spec : {M : Type 1} → statement M
-write_into_spec =
-    tie.close
-    (tie.spec (λ c. search rules) (λ c κs. search rules) (λ c κs. search rules) (λ c. search rules) returns (λ c κs. search rules)
-    (λ c. search rules) (λ c κs. search rules) (λ c. search rules) returns-2)
+    let a = c.args in
+    let left = filled a.label a.out.now _ c.if-out-ne-RECORD_BYTES.false c.write-bytes.ensures c.fill-2.ensures in
+    record { value = left.0; out_after = left.1 }
