@@ -1,4 +1,6 @@
 // What every crate above speaks of: depths of three kinds that cannot be taken for each other, and a pixel.
+#![tactic(auto)]
+
 ghost use Rattle.std.specs.Prelude.{◌≡◌, ◌^◌, ◌≤◌, ◌<◌, max};
 ghost use Rattle.sample.specs.Depth.{most_depth, Depth, rgb_checked, luma_checked, chroma_checked, depths_checked, ThreeDepths, at_most, M, middle_of, S, tops};
 ghost use Rattle.sample.specs.Flag.{one_if};

@@ -2,14 +2,9 @@
 use mathlib.Core.Path.{◌∙◌}
 use native.Mathlib.Nat.{one-mul}
 use native.Mathlib.Omega.{arith}
-use borrow.Author.Rules.{rules}
 use lib.Dec.{lit<}
 use lib.Pow.{shl_exact}
-use Rattle.sample.proofs.power.Statement.{statement}
-use Rattle.sample.proofs.power.Tie as tie
+use Rattle.sample.proofs.power.Goals as goal
 
-returns : tie.Need-returns
+pub returns : goal.returns
 returns c = shl_exact 1 c.args.bits 16 (lit< tt) (omega arith) ∙ one-mul _
-
-pub power-spec : {M : Type 1} → statement M
-power-spec = tie.close (tie.spec (λ c. search rules) returns)

@@ -3,11 +3,9 @@
 use mathlib.Core.Path.{◌≡◌}
 use Prim.Native.Nat.{ℕ, ◌+◌, ◌-◌, min}
 use native.Mathlib.Omega.{arith}
-use borrow.Author.Rules.{rules}
 use Rattle.rounding.proofs.Difference.{parts_sub}
 use Rattle.rounding.proofs.FromParts.{clip_of}
-use Rattle.rounding.proofs.narrow.clip_moved.Statement.{statement}
-use Rattle.rounding.proofs.narrow.clip_moved.Tie as tie
+use Rattle.rounding.proofs.narrow.clip_moved.Goals as goal
 
 stopped : (n up down top : ℕ) → min (min (n - down) top + up) top ≡ min (n - down + up) top
 stopped n up down top = omega arith
@@ -15,16 +13,10 @@ stopped n up down top = omega arith
 moved : (n p q : ℕ) → n - (q - p) + (p - q) ≡ n + p - q
 moved n p q = omega arith
 
-returns : tie.Need-returns
+pub returns : goal.returns
 returns c =
-    let a = c.before.before.before.before.before.args in
+    let a = c.args in
     let low = stopped a.n (a.p - a.q) (a.q - a.p) a.top in
     let same = moved a.n a.p a.q in
     let is = clip_of a.top (parts_sub (a.n + a.p) a.q) in
     cc
-
-pub clip-moved-spec : {M : Type 1} → statement M
-clip-moved-spec =
-    tie.close
-    (tie.spec (λ c κs. search rules) (λ c κs. search rules) (λ c κs. search rules) (λ c κs. search rules) (λ c. search rules)
-    (λ c κs. search rules) returns)

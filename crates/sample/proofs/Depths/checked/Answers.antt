@@ -2,7 +2,6 @@
 use mathlib.Core.Path.{◌≡◌, sym, ◌∙◌}
 use mathlib.Core.Bool.{true, false, true≢false}
 use Prim.Native.Nat.{ℕ}
-use borrow.Author.Rules.{rules}
 use Rattle.sample.specs.Depth.{is_depth, are_depths, rgb_checked, luma_checked, chroma_checked, depths_checked, rgb_depth, luma_depth, chroma_depth}
 use Rattle.sample.specs.declared.RgbDepth.{RgbDepth}
 use Rattle.sample.specs.declared.LumaDepth.{LumaDepth}
@@ -11,8 +10,8 @@ use Rattle.sample.specs.declared.RgbChecked.TheVariants as rgb
 use Rattle.sample.specs.declared.LumaChecked.TheVariants as luma
 use Rattle.sample.specs.declared.ChromaChecked.TheVariants as chroma
 use Rattle.sample.proofs.Choices.{chose_first, chose_second}
-use Rattle.sample.proofs.Depths.checked.Statement.{statement}
-use Rattle.sample.proofs.Depths.checked.Tie as tie
+use Rattle.sample.proofs.Depths.checked.Goals as goal
+use Rattle.sample.proofs.Depths.checked.Goals.{In-Depth, In-Depth-checked}
 
 rgb_no : (n : ℕ) → rgb_checked n ≡ rgb.Outside → is_depth n ≡ false
 unfolding rgb_checked
@@ -44,41 +43,34 @@ chroma_yes n d e =
     let t = chose_first (is_depth n) _ _ _ e (λ f. true≢false cc) in
     (t.0, (let q = t.1 in cc))
 
-returns : tie.Need-returns
+pub returns-in_default : goal.returns-in_default
 unfolding depths_checked are_depths
-returns c = rw (rgb_no _ (sym c.before.before.checked.ensures ∙ c.enum_told.given.1))
+returns-in_default c = rw (rgb_no _ (sym c.checked.ensures ∙ c.in_default.is))
 
 -- what the first check, and the second, have told where they were passed
-first : (c : tie.After-rgb) → (is_depth c.before.before.before.args.rgb ≡ true) × (rgb_depth c.before.before.before.args.rgb ≡ c.rgb.given.0.0)
-first c = rgb_yes _ _ (sym c.before.before.checked.ensures ∙ c.rgb.given.1)
+first : (c : In-Depth) → (is_depth c.args.rgb ≡ true) × (rgb_depth c.args.rgb ≡ c.in-Depth.rgb)
+first c = rgb_yes _ _ (sym c.checked.ensures ∙ c.in-Depth.is)
 
-second : (c : tie.After-luma) → (is_depth c.before.before.before.before.before.before.before.args.luma ≡ true) × (luma_depth c.before.before.before.before.before.before.before.args.luma ≡ c.luma.given.0.0)
-second c = luma_yes _ _ (sym c.before.before.checked2.ensures ∙ c.luma.given.1)
+second : (c : In-Depth-checked) → (is_depth c.args.luma ≡ true) × (luma_depth c.args.luma ≡ c.in-Depth-checked.luma)
+second c = luma_yes _ _ (sym c.checked-2.ensures ∙ c.in-Depth-checked.is)
 
-returns-2 : tie.Need-returns-2
+pub returns-in_default-checked : goal.returns-in_default-checked
 unfolding depths_checked are_depths
-returns-2 c = rw ((first c.before.before.before.before).0, luma_no _ (sym c.before.before.checked2.ensures ∙ c.enum-told2.given.1))
+returns-in_default-checked c = rw ((first ((goal.at.returns-in_default-checked c).In-Depth)).0, luma_no _ (sym c.checked-2.ensures ∙ c.in_default-checked.is))
 
-returns-3 : tie.Need-returns-3
+pub returns-in_default-checked-2 : goal.returns-in_default-checked-2
 unfolding depths_checked are_depths
-returns-3 c =
+returns-in_default-checked-2 c =
     rw (
-      (first c.before.before.before.before.before.before.before.before).0,
-      (second c.before.before.before.before).0,
-      chroma_no _ (sym c.before.before.checked3.ensures ∙ c.enum-told3.given.1),
+      (first ((goal.at.returns-in_default-checked-2 c).In-Depth)).0,
+      (second ((goal.at.returns-in_default-checked-2 c).In-Depth-checked)).0,
+      chroma_no _ (sym c.checked-3.ensures ∙ c.in_default-checked-2.is),
     )
 
-returns-4 : tie.Need-returns-4
+pub returns : goal.returns
 unfolding depths_checked are_depths
-returns-4 c =
-    let x = first c.before.before.before.before.before.before.before.before.before in
-    let y = second c.before.before.before.before.before in
-    let z = chroma_yes _ _ (sym c.before.before.before.checked3.ensures ∙ c.before.chroma.given.1) in
+returns c =
+    let x = first ((goal.at.returns c).In-Depth) in
+    let y = second ((goal.at.returns c).In-Depth-checked) in
+    let z = chroma_yes _ _ (sym c.checked-3.ensures ∙ c.in-Depth-checked-2.is) in
     rw (x.0, y.0, z.0) (rw (← x.1, ← y.1, ← z.1))
-
-pub checked-spec : {M : Type 1} → statement M
-checked-spec =
-    tie.close
-    (tie.spec (λ c κs. search rules) (λ c. search rules) (λ c. search rules) returns (λ c κs. search rules)
-    (λ c. search rules) (λ c. search rules) returns-2 (λ c κs. search rules) (λ c. search rules) (λ c. search rules) returns-3
-    returns-4)
