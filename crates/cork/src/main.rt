@@ -45,56 +45,59 @@ fn edition_said(words: &[u8], names: &[u8]) -> Said
     }
 }
 
-fn asked(words: &[u8], said: Said, a: Asked) {
+fn asked(rt: &impl Print, words: &[u8], said: Said, a: Asked) -> io::Result<()> {
     match a {
-        Asked::For(request) => saying::answer(request, ask::ask(request)),
-        Asked::Fault { word, expected } => saying::fault(words, said.words, word, expected),
+        Asked::For(request) => saying::answer(rt, request, ask::ask(request)),
+        Asked::Fault { word, expected } => saying::fault(rt, words, said.words, word, expected),
     }
 }
 
-fn on_pixel(words: &[u8], said: Said, call: Call) {
+fn on_pixel(rt: &impl Print, words: &[u8], said: Said, call: Call) -> io::Result<()> {
     asked(
+        rt,
         words,
         said,
         form::pixel_form(call, said.edition, words, GAP, &RANGES),
-    );
+    )
 }
 
-fn on_sample(words: &[u8], said: Said, kind: SampleKind) {
+fn on_sample(rt: &impl Print, words: &[u8], said: Said, kind: SampleKind) -> io::Result<()> {
     asked(
+        rt,
         words,
         said,
         form::sample_form(kind, said.edition, words, GAP, &RANGES, 10),
-    );
+    )
 }
 
-fn on_code(words: &[u8], said: Said, kind: CodeKind) {
+fn on_code(rt: &impl Print, words: &[u8], said: Said, kind: CodeKind) -> io::Result<()> {
     asked(
+        rt,
         words,
         said,
         form::label_form(kind, said.edition, words, GAP, 2),
-    );
+    )
 }
 
-fn on_meter(words: &[u8], said: Said) {
+fn on_meter(rt: &impl Print, words: &[u8], said: Said) -> io::Result<()> {
     match reading::place_at(words, GAP, 9, b"y cb cr") {
-        0 => on_sample(words, said, SampleKind::Y),
-        1 => on_sample(words, said, SampleKind::Cb),
-        2 => on_sample(words, said, SampleKind::Cr),
-        _ => on_pixel(words, said, Call::Meter),
+        0 => on_sample(rt, words, said, SampleKind::Y),
+        1 => on_sample(rt, words, said, SampleKind::Cb),
+        2 => on_sample(rt, words, said, SampleKind::Cr),
+        _ => on_pixel(rt, words, said, Call::Meter),
     }
 }
 
-fn on_label(words: &[u8], said: Said) {
+fn on_label(rt: &impl Print, words: &[u8], said: Said) -> io::Result<()> {
     match reading::place_at(words, GAP, 1, b"primaries transfer matrix") {
-        0 => on_code(words, said, CodeKind::Primaries),
-        1 => on_code(words, said, CodeKind::Transfer),
-        2 => on_code(words, said, CodeKind::Matrix),
-        _ => saying::fault(words, said.words, 1, Expected::CodeKind),
+        0 => on_code(rt, words, said, CodeKind::Primaries),
+        1 => on_code(rt, words, said, CodeKind::Transfer),
+        2 => on_code(rt, words, said, CodeKind::Matrix),
+        _ => saying::fault(rt, words, said.words, 1, Expected::CodeKind),
     }
 }
 
-fn on_words(all: &[u8]) {
+fn on_words(rt: &impl Print, all: &[u8]) -> io::Result<()> {
     let verb = reading::place_at(
         all,
         GAP,
@@ -104,14 +107,14 @@ fn on_words(all: &[u8]) {
     let said = edition_said(all, &EDITIONS);
     let words = reading::words_from(all, GAP, said.words);
     match verb {
-        0 => on_pixel(words, said, Call::Convert(Way::Forward)),
-        1 => on_pixel(words, said, Call::Convert(Way::Reverse)),
-        2 => on_pixel(words, said, Call::ImageCheck),
-        3 => on_meter(words, said),
-        4 => on_label(words, said),
-        5 => file_label::asked(all),
-        6..=8 => wording::usage(),
-        _ => saying::fault(all, 0, 0, Expected::Verb),
+        0 => on_pixel(rt, words, said, Call::Convert(Way::Forward)),
+        1 => on_pixel(rt, words, said, Call::Convert(Way::Reverse)),
+        2 => on_pixel(rt, words, said, Call::ImageCheck),
+        3 => on_meter(rt, words, said),
+        4 => on_label(rt, words, said),
+        5 => file_label::asked(rt, all),
+        6..=8 => wording::usage(rt),
+        _ => saying::fault(rt, all, 0, 0, Expected::Verb),
     }
 }
 
@@ -152,10 +155,9 @@ fn all_words(count: usize, words: &mut [u8]) -> usize
 fn main() {
     let count = os::arg_count();
     if count < 2 {
-        wording::usage();
-        return;
+        return wording::usage(rt);
     }
     let mut words = io::buffer();
     let n = all_words(count, &mut words);
-    on_words(&words[..n]);
+    on_words(rt, &words[..n])
 }

@@ -16,25 +16,24 @@ use request::form::Expected;
 use text::reading;
 
 // One track, counted from 1 among all of the file, where it is a picture.
-fn track(n: u64, said: Said) {
+fn track(rt: &impl Print, n: u64, said: Said) -> io::Result<()> {
     let Said::Other = said else {
-        say(b"track ");
-        number(n);
-        say(b": ");
-        sentence(said);
-        return;
+        say(rt, b"track ")?;
+        number(rt, n)?;
+        say(rt, b": ")?;
+        return sentence(rt, said);
     };
 }
 
 // A line for each track of pictures.
-fn tracks(fd: i32, from: u64, end: u64) {
+fn tracks(rt: &impl Print, fd: i32, from: u64, end: u64) -> io::Result<()> {
     let mut n: u64 = 0;
     let mut at = from;
     while at < end {
         match finding::find(fd, at, end, file::TRAK, 0) {
             Found::In(s) => {
                 n += 1;
-                track(n, file::track_said(fd, s.from, s.end));
+                track(rt, n, file::track_said(fd, s.from, s.end))?;
                 at = s.end;
             }
             Found::Nothing => return,
@@ -44,16 +43,15 @@ fn tracks(fd: i32, from: u64, end: u64) {
 }
 
 // A line for the image, where there is one beside the tracks, and the tracks'.
-fn parts(fd: i32, size: u64, image: Said) {
+fn parts(rt: &impl Print, fd: i32, size: u64, image: Said) -> io::Result<()> {
     match file::movie(fd, size) {
         Found::In(s) => {
             let Said::Other = image else {
-                say(b"image: ");
-                sentence(image);
-                tracks(fd, s.from, s.end);
-                return;
+                say(rt, b"image: ")?;
+                sentence(rt, image)?;
+                return tracks(rt, fd, s.from, s.end);
             };
-            tracks(fd, s.from, s.end);
+            tracks(rt, fd, s.from, s.end)?;
         }
         Found::Nothing => (),
         Found::Bad(_) => (),
@@ -61,16 +59,15 @@ fn parts(fd: i32, size: u64, image: Said) {
 }
 
 // The answer, and what it is made of where that is more than one picture.
-fn answer(fd: i32, size: u64, f: FileSaid) {
+fn answer(rt: &impl Print, fd: i32, size: u64, f: FileSaid) -> io::Result<()> {
     let said = f.said;
     let image = f.image;
-    sentence(said);
+    sentence(rt, said)?;
     if 1 < f.tracks {
-        parts(fd, size, image);
-        return;
+        return parts(rt, fd, size, image);
     }
     if let Said::Differ = said {
-        parts(fd, size, image);
+        parts(rt, fd, size, image)?;
     }
 }
 
@@ -84,41 +81,37 @@ fn length_of(end: i64) -> u64
     end as u64
 }
 
-fn opened(fd: i32) {
+fn opened(rt: &impl Print, fd: i32) -> io::Result<()> {
     let size = length_of(libc::lseek(fd, 0, libc::SEEK_END));
-    answer(fd, size, file::file_said(fd, size));
+    answer(rt, fd, size, file::file_said(fd, size))
 }
 
-fn unopened() {
-    say(b"cannot open the file: ");
-    words::reason(os::errno());
+fn unopened(rt: &impl Print) -> io::Result<()> {
+    say(rt, b"cannot open the file: ")?;
+    words::reason(rt, os::errno())
 }
 
-fn named(path: &[u8]) {
+fn named(rt: &impl Print, path: &[u8]) -> io::Result<()> {
     let fd = os::open_read(path);
     if fd < 0 {
-        unopened();
-        return;
+        return unopened(rt);
     }
-    opened(fd);
+    opened(rt, fd)?;
     libc::close(fd);
 }
 
 // The file's name is taken whole, as the command line has it, and not from these words, which are cut.
-pub fn asked(words: &[u8]) {
+pub fn asked(rt: &impl Print, words: &[u8]) -> io::Result<()> {
     if reading::has_word(words, GAP, 2) {
-        saying::fault(words, 0, 2, Expected::NoMore);
-        return;
+        return saying::fault(rt, words, 0, 2, Expected::NoMore);
     }
     if reading::has_word(words, GAP, 1) {
         let mut path = io::buffer();
         let n = os::arg(2, &mut path);
         if os::errno() != 0 {
-            unopened();
-            return;
+            return unopened(rt);
         }
-        named(&path[..n]);
-        return;
+        return named(rt, &path[..n]);
     }
-    say(b"word 2 is missing; expected: the name of an MP4, MOV or AVIF file\n");
+    say(rt, b"word 2 is missing; expected: the name of an MP4, MOV or AVIF file\n")
 }
