@@ -16,7 +16,7 @@ use sample::Depths;
 pub const MOST_SAMPLE: u16 = (1 << sample::MOST_LEVEL_DEPTH) - 1;
 
 // The depths of a setting, and which of its sides are full range.
-#[derive(Drop)]
+#[derive(Clone, Copy)]
 pub struct LevelSetting {
     pub depths: Depths,
     pub rgb_full: bool,

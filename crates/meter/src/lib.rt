@@ -7,14 +7,14 @@ use sample::{ChromaDepth, LumaDepth, Pixel};
 use scale::Scale;
 
 // The levels of one pixel, which travel together.
-#[derive(Drop)]
+#[derive(Clone, Copy)]
 pub struct PixelLevels {
     pub y: f32,
     pub cb: f32,
     pub cr: f32,
 }
 
-#[derive(Drop)]
+#[derive(Clone, Copy)]
 pub enum SampleKind {
     Y,
     Cb,

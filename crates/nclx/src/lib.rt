@@ -16,7 +16,7 @@ pub const RECORD_BYTES: usize = 11;
 // The full-range flag in the last byte, in which nothing else may be set.
 const FLAG: u8 = 128;
 
-#[derive(Drop)]
+#[derive(Clone, Copy)]
 pub struct ColourLabel {
     pub primaries: u8,
     pub transfer: u8,
@@ -24,7 +24,7 @@ pub struct ColourLabel {
     pub full: bool,
 }
 
-#[derive(Drop)]
+#[derive(Clone, Copy)]
 pub enum LabelRead {
     Label(ColourLabel),
     Refused(Refusal),

@@ -11,7 +11,7 @@ const MOST_SIZE: usize = 8192;
 const MOST_STRIDE: usize = 16384;
 
 // How three planes lie in memory: their stride, and how many elements each has.
-#[derive(Drop)]
+#[derive(Clone, Copy)]
 pub struct Layout {
     pub stride: usize,
     pub n0: usize,

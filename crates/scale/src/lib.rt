@@ -6,7 +6,7 @@ ghost use Rattle.scale.specs.Scale.{light_by, rgb_scale, luma_scale, chroma_scal
 use sample::{ChromaDepth, LumaDepth, RgbDepth};
 
 // A sample v stands for (v - plus) / times.
-#[derive(Drop)]
+#[derive(Clone, Copy)]
 pub struct Scale {
     pub times: u64,
     pub plus: u64,

@@ -9,14 +9,14 @@ use refusal::Place;
 use sample::{Pixel, larger};
 
 // What a search finds.
-#[derive(Drop)]
+#[derive(Clone, Copy)]
 pub enum Found {
     At(Place),
     Nothing,
 }
 
 // The same of a search for a bad sample: its place, and the number that stands there.
-#[derive(Drop)]
+#[derive(Clone, Copy)]
 pub enum Bad {
     At(Place, u16),
     Nothing,
