@@ -1,5 +1,7 @@
 // The level matrices, prepared once for a setting. Equations over exact fractions are the definition. The code has one form for every
 // sample: three signed weights over one denominator, one Round, one Clip.
+#![tactic(auto)]
+
 pub mod by_lines;
 pub mod equations;
 pub mod lines;

@@ -1,4 +1,6 @@
 // The meter's levels. A level is the one float quotient of a numerator and a denominator that are both exact as floats.
+#![tactic(auto)]
+
 ghost use Rattle.std.specs.Prelude.{◌≡◌};
 ghost use Rattle.sample.specs.Depth.{Depth};
 ghost use Rattle.meter.specs.Level.{float_quotient, plane_number, scale_of, level_of, levels_of, Measurable};

@@ -1,5 +1,7 @@
 // The colour label of a media file: the 'nclx' record of ISO/IEC 14496-12, read, written, and chosen of two. Eleven bytes: the four letters, three
 // codes of 16 bits, high byte first, and a byte whose highest bit is the full-range flag.
+#![tactic(auto)]
+
 ghost use Rattle.std.specs.Prelude.{◌≡◌};
 ghost use Rattle.nclx.specs.Record.{Sound, label_in, label_read};
 

@@ -44,6 +44,7 @@ pub fn row_start(j: usize, height: usize, stride: usize) -> usize
 }
 
 // Whether n is below `least` or above `most`.
+#[tactic(auto, unfolding(crate::specs::Sizes::outside))]
 fn outside(n: usize, least: usize, most: usize) -> bool
     ensures { result ≡ outside n least most }
 {

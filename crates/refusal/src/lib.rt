@@ -1,4 +1,6 @@
 // The one refusal type of every call: a number, and where that is 10 the sample, by its place and as it was found.
+#![tactic(auto)]
+
 ghost use Rattle.std.specs.Prelude.{◌≡◌};
 ghost use Rattle.refusal.specs.Rules.{at, numbered, bad_at};
 

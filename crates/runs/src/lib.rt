@@ -1,5 +1,7 @@
 // A pixel's light is R, G and B in one weighted sum. The lines of a luma matrix run evenly with it, and with how far B and R are from it: the
 // three runs are found once for many pixels, and what prepares numbers for a row starts from them.
+#![tactic(auto)]
+
 mod line;
 pub mod mix;
 mod weights;

@@ -1,4 +1,6 @@
 // What samples stand for. Formulas and the meter read them alike, and the numbers of narrow range stand here alone.
+#![tactic(auto)]
+
 ghost use Rattle.std.specs.Prelude.{◌≡◌};
 ghost use Rattle.sample.specs.Depth.{Depth};
 ghost use Rattle.scale.specs.Scale.{light_by, rgb_scale, luma_scale, chroma_scale};
