@@ -1,4 +1,6 @@
 // Answers as lines of text, as test cases have them. They are held to stored answers, since no contract can speak of what is written.
+#![tactic(auto)]
+
 use codes::label::Label;
 use frame::FrameAnswer;
 use image_check::ImageAnswer;
@@ -9,6 +11,7 @@ use output::{hex, number, say};
 use refusal::{Place, Refusal};
 use request::Answer;
 use sample::Pixel;
+use std::io;
 
 pub fn bad_line(rt: &impl Print) -> io::Result<()> {
     say(rt, b"bad line\n")

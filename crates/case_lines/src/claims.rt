@@ -9,6 +9,7 @@ use corkplover::judging;
 use judge::Judgement;
 use rows::paint::Size;
 use setting::{Setting, Way};
+use std::io;
 
 fn judged(
     way: Way,

@@ -1,5 +1,7 @@
 // Cases as lines of text, answered as the box answers them. docs/src/oracle says what a line means. A line's words are read as the counter's
 // are. What is written to standard output is held to stored answers, since no contract can speak of it.
+#![tactic(auto)]
+
 ghost use Rattle.std.specs.Prelude.{◌≡◌, replicate};
 
 mod claims;
@@ -13,6 +15,7 @@ use meter::SampleKind;
 use request::form;
 use request::form::Asked;
 use setting::{Call, Way};
+use std::io;
 use text::reading;
 
 fn asked(rt: &impl Print, a: Asked) -> io::Result<()> {
@@ -92,4 +95,5 @@ pub fn all(rt: &impl Print, text: &[u8]) -> io::Result<()> {
         on_line(rt, reading::word_from(text, b'\n', at))?;
         at = reading::next_of(text, b'\n', at);
     }
+    Ok(())
 }

@@ -10,6 +10,7 @@ use frame::FrameAnswer;
 use request::form;
 use rows::paint::Size;
 use setting::{Setting, Way};
+use std::io;
 use text::reading;
 
 // The longest plane that there is room for.

@@ -4,6 +4,7 @@ use case_words::{GAP, next_number};
 use corkplover::records;
 use nclx::ColourLabel;
 use request::form;
+use std::io;
 use text::reading;
 
 fn on_read(rt: &impl Print, line: &[u8]) -> io::Result<()> {

@@ -1,4 +1,6 @@
 // The box at the counter. It reads its words, asks the box, and says the answer in words with its numbers.
+#![tactic(auto)]
+
 ghost use Rattle.std.specs.Prelude.{◌≡◌, ◌≤◌, ◌-◌, min, length};
 ghost use Rattle.cork.specs.CommandLine.{most_words, Words, edition_said};
 
@@ -8,6 +10,9 @@ use meter::SampleKind;
 use request::form;
 use request::form::{Asked, Expected};
 use setting::{Call, Way};
+use std::env::{Env, FillError};
+use std::fs::{File, Files};
+use std::io;
 use text::reading;
 
 // How many words are read: no request has so many.
@@ -97,7 +102,7 @@ fn on_label(rt: &impl Print, words: &[u8], said: Said) -> io::Result<()> {
     }
 }
 
-fn on_words(rt: &impl Print, all: &[u8]) -> io::Result<()> {
+fn on_words(rt: &(impl Env + Files<File = File> + Print), all: &[u8]) -> io::Result<()> {
     let verb = reading::place_at(
         all,
         GAP,
@@ -118,15 +123,18 @@ fn on_words(rt: &impl Print, all: &[u8]) -> io::Result<()> {
     }
 }
 
-// One word of the command line, at the end of those before it. For a word that is longer than `one` `os::arg` answers 0 and leaves its
-// beginning there: that goes on with two dots, as no word does that belongs anywhere.
-fn word(i: usize, words: &mut [u8], at: usize) -> usize
+// One word of the command line, at the end of those before it. A word that is longer than `one` leaves its beginning there: that goes on
+// with two dots, as no word does that belongs anywhere.
+fn word(rt: &impl Env, i: usize, words: &mut [u8], at: usize) -> usize
     requires { at ≤ length words.old }
     ensures words { Words 1 words.old at words.new result }
     ensures upper_bound { result ≤ length words.old }
 {
     let mut one = [0u8; 64];
-    let n = os::arg(i, &mut one);
+    let n = match rt.arg(i, &mut one) {
+        Ok(n) => n,
+        Err(_) => 0,
+    };
     if n == 0 && one[0] != 0 {
         let cut = text::writing::put(words, at, &one);
         return text::writing::put(words, cut, b"..\0");
@@ -136,7 +144,7 @@ fn word(i: usize, words: &mut [u8], at: usize) -> usize
 }
 
 // All words, or the first of them.
-fn all_words(count: usize, words: &mut [u8]) -> usize
+fn all_words(rt: &impl Env, count: usize, words: &mut [u8]) -> usize
     ensures words { Words (min (count - 1) most_words) words.old 0 words.new result }
     ensures upper_bound { result ≤ length words.old }
 {
@@ -146,18 +154,29 @@ fn all_words(count: usize, words: &mut [u8]) -> usize
         if MOST_WORDS < i {
             return at;
         }
-        at = word(i, words, at);
+        at = word(rt, i, words, at);
         i += 1;
     }
     at
 }
 
-fn main() {
-    let count = os::arg_count();
-    if count < 2 {
-        return wording::usage(rt);
+// How many words the command line has, with the program's name.
+fn arg_count(rt: &impl Env) -> usize {
+    let mut one = [0u8; 1];
+    for i in 0..usize::MAX {
+        if let Err(FillError::NotPresent) = rt.arg(i, &mut one) {
+            return i;
+        }
     }
-    let mut words = io::buffer();
-    let n = all_words(count, &mut words);
-    on_words(rt, &words[..n])
+    usize::MAX
+}
+
+fn main(rt: HostRuntime) -> io::Result<()> {
+    let count = arg_count(&rt);
+    if count < 2 {
+        return wording::usage(&rt);
+    }
+    let mut words = [0u8; 4096];
+    let n = all_words(&rt, count, &mut words);
+    on_words(&rt, &words[..n])
 }

@@ -9,6 +9,7 @@ use refusal::Refusal;
 use request::Request;
 use sample::{MOST_DEPTH, Side};
 use setting::Setting;
+use std::io;
 
 // The depth of a plane, in bits.
 fn depth_of(side: Side, s: Setting, plane: u8) -> u8

@@ -10,6 +10,7 @@ use request::form::Expected;
 use request::{Answer, Request};
 use sample::Pixel;
 use setting::Way;
+use std::io;
 use text::reading;
 
 // The word at which reading stopped, counted with the words before these, and what was expected of it. Where none stands before them, word 1 could

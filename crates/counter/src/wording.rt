@@ -1,6 +1,7 @@
 // The counter's fixed sentences: how it is asked, what was expected of a word, and what a refusal means.
 use output::say;
 use request::form::Expected;
+use std::io;
 
 pub fn usage(rt: &impl Print) -> io::Result<()> {
     say(rt, b"cork: one pixel of the colour converter box\n\n")?;

@@ -1,5 +1,6 @@
 // What the codes of a colour label stand for, in words.
 use output::say;
+use std::io;
 
 pub fn primaries(rt: &impl Print, code: u16) -> io::Result<()> {
     match code {
@@ -45,6 +46,7 @@ pub fn transfer(rt: &impl Print, code: u16) -> io::Result<()> {
 // A matrix goes by its number alone, but where that leaves it open.
 pub fn matrix(rt: &impl Print, code: u16) -> io::Result<()> {
     if code == 2 {
-        say(rt, b" (unspecified)")?;
+        return say(rt, b" (unspecified)");
     }
+    Ok(())
 }

@@ -8,17 +8,37 @@ use media::finding::Trouble;
 use media::records::{Codes, Said};
 use nclx::ColourLabel;
 use output::{number, say};
+use std::io;
+
+// The system's numbers for why a call failed.
+const ENOENT: i32 = 2;
+
+const EIO: i32 = 5;
+
+const EACCES: i32 = 13;
+
+const ENOTDIR: i32 = 20;
+
+const EISDIR: i32 = 21;
+
+pub const EINVAL: i32 = 22;
+
+pub const ENAMETOOLONG: i32 = 36;
+
+// That of a name that is no text.
+pub const EILSEQ: i32 = 84;
 
 // Why the system did not let a file be opened or read. Without an error the file ended before it should have.
 pub fn reason(rt: &impl Print, error: i32) -> io::Result<()> {
     match error {
         0 => say(rt, b"it ended too early\n"),
-        libc::ENOENT => say(rt, b"no such file\n"),
-        libc::EACCES => say(rt, b"no permission\n"),
-        libc::ENOTDIR => say(rt, b"a part of its name is no folder\n"),
-        libc::EISDIR => say(rt, b"it is a folder\n"),
-        libc::ENAMETOOLONG => say(rt, b"its name is too long\n"),
-        libc::EIO => say(rt, b"its device fails\n"),
+        ENOENT => say(rt, b"no such file\n"),
+        EACCES => say(rt, b"no permission\n"),
+        ENOTDIR => say(rt, b"a part of its name is no folder\n"),
+        EISDIR => say(rt, b"it is a folder\n"),
+        ENAMETOOLONG => say(rt, b"its name is too long\n"),
+        EIO => say(rt, b"its device fails\n"),
+        EILSEQ => say(rt, b"its name is not in UTF-8\n"),
         _ => say(rt, b"the system refuses it\n"),
     }
 }
@@ -55,27 +75,27 @@ fn box_name(rt: &impl Print, h: Header) -> io::Result<()> {
 
 fn trouble(rt: &impl Print, t: Trouble) -> io::Result<()> {
     match t {
-        Trouble::Unread => {
+        Trouble::Unread(error) => {
             say(rt, b"cannot read the file: ")?;
-            reason(rt, os::errno())?;
+            reason(rt, error)
         }
         Trouble::Stranger => say(rt, b"not an MP4, MOV or AVIF file: it does not begin as one\n"),
         Trouble::Beyond { header, left } => {
             box_name(rt, header)?;
             number(rt, left)?;
-            say(rt, b" are left\n")?;
+            say(rt, b" are left\n")
         }
         Trouble::Small { header, least } => {
             box_name(rt, header)?;
             number(rt, least)?;
-            say(rt, b" are the least that it takes\n")?;
+            say(rt, b" are the least that it takes\n")
         }
         Trouble::Cut { at, left } => {
             say(rt, b"damaged file: a box should begin at byte ")?;
             number(rt, at)?;
             say(rt, b", and ")?;
             number(rt, left)?;
-            say(rt, b" bytes are left, too few for one\n")?;
+            say(rt, b" bytes are left, too few for one\n")
         }
     }
 }
