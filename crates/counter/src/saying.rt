@@ -15,7 +15,13 @@ use text::reading;
 
 // The word at which reading stopped, counted with the words before these, and what was expected of it. Where none stands before them, word 1 could
 // have named an edition.
-pub fn fault(rt: &impl Print, words: &[u8], before: u8, word: u8, expected: Expected) -> io::Result<()> {
+pub fn fault(
+    rt: &impl Print,
+    words: &[u8],
+    before: u8,
+    word: u8,
+    expected: Expected,
+) -> io::Result<()> {
     let place = before as u64 + word as u64;
     say(rt, b"word ")?;
     number(rt, place + 1)?;
@@ -126,7 +132,10 @@ fn source(rt: &impl Print, found: bool) -> io::Result<()> {
     if found {
         return say(rt, b"yes: an RGB pixel within depth converts to this one\n");
     }
-    say(rt, b"none: no RGB pixel within depth converts to this one\n")
+    say(
+        rt,
+        b"none: no RGB pixel within depth converts to this one\n",
+    )
 }
 
 // The answer to a request, which tells what a refused sample was measured by.

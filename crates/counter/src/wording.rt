@@ -5,29 +5,68 @@ use std::io;
 
 pub fn usage(rt: &impl Print) -> io::Result<()> {
     say(rt, b"cork: one pixel of the colour converter box\n\n")?;
-    say(rt, b"  cork forward [EDITION] SETTING R G B      RGB to luma and chroma\n")?;
-    say(rt, b"  cork reverse [EDITION] SETTING Y CB CR    luma and chroma to RGB\n")?;
-    say(rt, b"  cork source [EDITION] SETTING Y CB CR     has it an RGB source? (lossless settings)\n")?;
-    say(rt, b"  cork meter [EDITION] SETTING Y CB CR      the three levels (luma matrices)\n")?;
+    say(
+        rt,
+        b"  cork forward [EDITION] SETTING R G B      RGB to luma and chroma\n",
+    )?;
+    say(
+        rt,
+        b"  cork reverse [EDITION] SETTING Y CB CR    luma and chroma to RGB\n",
+    )?;
+    say(
+        rt,
+        b"  cork source [EDITION] SETTING Y CB CR     has it an RGB source? (lossless settings)\n",
+    )?;
+    say(
+        rt,
+        b"  cork meter [EDITION] SETTING Y CB CR      the three levels (luma matrices)\n",
+    )?;
     say(rt, b"  cork meter [EDITION] SETTING y|cb|cr SAMPLE\n")?;
-    say(rt, b"  cork label [EDITION] primaries|transfer|matrix CODE\n")?;
+    say(
+        rt,
+        b"  cork label [EDITION] primaries|transfer|matrix CODE\n",
+    )?;
     say(
         rt,
         b"  cork label-of FILE                        the colour label of an MP4, MOV or AVIF file\n",
     )?;
-    say(rt, b"  cork help                                 these lines, as without any word\n\n")?;
-    say(rt, b"EDITION is the text of H.273 that the label was written by: 2021, draft or published.\n")?;
-    say(rt, b"Where none is given, published is meant. Matrix codes differ in them from 15 on.\n\n")?;
-    say(rt, b"SETTING is eight words: primaries, transfer and matrix codes (0 to 255), RGB depth,\n")?;
+    say(
+        rt,
+        b"  cork help                                 these lines, as without any word\n\n",
+    )?;
+    say(
+        rt,
+        b"EDITION is the text of H.273 that the label was written by: 2021, draft or published.\n",
+    )?;
+    say(
+        rt,
+        b"Where none is given, published is meant. Matrix codes differ in them from 15 on.\n\n",
+    )?;
+    say(
+        rt,
+        b"SETTING is eight words: primaries, transfer and matrix codes (0 to 255), RGB depth,\n",
+    )?;
     say(
         rt,
         b"Y depth and C depth in bits, then full or narrow for RGB and for YCbCr. For example:\n\n",
     )?;
     say(rt, b"  cork forward 1 1 8 8 8 9 full full 255 0 0\n")?;
-    say(rt, b"  cork forward draft 1 1 15 8 10 10 full full 255 0 0\n\n")?;
-    say(rt, b"Status: 0 for an answer, 1 for a refusal, 2 for words that were not understood.\n")?;
-    say(rt, b"For a file also: 4 its colour records differ, 5 it has none, 6 an older label without\n")?;
-    say(rt, b"a range flag, 7 an ICC profile instead, 8 it can't be opened or read, 9 it is no such\n")?;
+    say(
+        rt,
+        b"  cork forward draft 1 1 15 8 10 10 full full 255 0 0\n\n",
+    )?;
+    say(
+        rt,
+        b"Status: 0 for an answer, 1 for a refusal, 2 for words that were not understood.\n",
+    )?;
+    say(
+        rt,
+        b"For a file also: 4 its colour records differ, 5 it has none, 6 an older label without\n",
+    )?;
+    say(
+        rt,
+        b"a range flag, 7 an ICC profile instead, 8 it can't be opened or read, 9 it is no such\n",
+    )?;
     say(rt, b"file, or damaged.\n")
 }
 
@@ -70,19 +109,31 @@ fn old_label(rt: &impl Print) -> io::Result<()> {
 pub fn meaning(rt: &impl Print, n: u8) -> io::Result<()> {
     match n {
         1 => {
-            say(rt, b"this matrix code is reserved in this edition; use the code of your material")?;
+            say(
+                rt,
+                b"this matrix code is reserved in this edition; use the code of your material",
+            )?;
             old_label(rt)
         }
         2 => say(rt, b"the matrix is unspecified; name the real one"),
         3 => {
-            say(rt, b"this matrix is known but not served; choose another or another box")?;
+            say(
+                rt,
+                b"this matrix is known but not served; choose another or another box",
+            )?;
             old_label(rt)
         }
         4 => say(rt, b"this primaries code is reserved; correct the label"),
         5 => say(rt, b"this transfer code is reserved; correct the label"),
-        6 => say(rt, b"a depth is outside 8 to 16 bits, or above 12 with a luma matrix"),
+        6 => say(
+            rt,
+            b"a depth is outside 8 to 16 bits, or above 12 with a luma matrix",
+        ),
         7 => {
-            say(rt, b"depths or ranges do not agree with this matrix; see the rules for what it asks")?;
+            say(
+                rt,
+                b"depths or ranges do not agree with this matrix; see the rules for what it asks",
+            )?;
             old_label(rt)
         }
         8 => say(
@@ -91,11 +142,26 @@ pub fn meaning(rt: &impl Print, n: u8) -> io::Result<()> {
         ),
         9 => say(rt, b"a plane is too short for its size and stride"),
         10 => say(rt, b"a sample is too large for its depth"),
-        11 => say(rt, b"the meter needs a luma matrix, and the source check a lossless setting"),
-        12 => say(rt, b"there is no such edition; name 2021, draft or published"),
-        20 => say(rt, b"the colour record is not 11 bytes long; write the label anew"),
-        21 => say(rt, b"the colour record does not begin with nclx; write the label anew"),
-        22 => say(rt, b"a code in the colour record is above 255; correct the label"),
+        11 => say(
+            rt,
+            b"the meter needs a luma matrix, and the source check a lossless setting",
+        ),
+        12 => say(
+            rt,
+            b"there is no such edition; name 2021, draft or published",
+        ),
+        20 => say(
+            rt,
+            b"the colour record is not 11 bytes long; write the label anew",
+        ),
+        21 => say(
+            rt,
+            b"the colour record does not begin with nclx; write the label anew",
+        ),
+        22 => say(
+            rt,
+            b"a code in the colour record is above 255; correct the label",
+        ),
         23 => say(
             rt,
             b"a reserved bit of the colour record is set; clear all below the full-range flag",

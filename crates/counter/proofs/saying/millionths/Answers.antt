@@ -1,16 +1,14 @@
--- `counter::saying::millionths` meets its contract: half of a quotient, rounded up, is Round of the half.
+-- Half of a quotient, rounded up, is Round of the half.
 use mathlib.Core.Path.{◌≡◌, sym, ap, ◌∙◌}
 use Prim.Native.Nat.{ℕ, ◌+◌, ◌*◌, ◌-◌, ◌/◌, ◌^◌, ◌≤◌, ◌<◌}
 use native.Mathlib.Nat.{mul_comm, add-div_right, div-div-eq-div-mul, div-eq_of_lt}
 use native.Mathlib.Omega.{arith}
 use lib.IntN.{pos}
-use lib.Pow.{pow_pos, pow_mono, shr_le}
-use borrow.Author.Rules.{rules}
+use lib.Pow.{pow_pos, pow_mono}
 use borrow.Author.Tests.{le-leb, lt-leb}
 use Rattle.rounding.specs.Rounding.{round}
 use Rattle.counter.specs.Millionths.{exponent_of, mantissa_of, millionths}
-use Rattle.counter.proofs.saying.millionths.Statement.{statement}
-use Rattle.counter.proofs.saying.millionths.Tie as tie
+use Rattle.counter.proofs.saying.millionths.Goals as goal
 
 nearest : (n d : ℕ) → 0 < d → pos ((2 * n / d + 1) / 2) ≡ round (pos n) d
 unfolding round
@@ -35,20 +33,11 @@ module _ (bits : ℕ) where
   unfolding millionths
   none_large h = rw (lt-leb _ _ h)
 
-returns : tie.Need-returns
-returns c = none_small _ (omega arith)
+pub returns-then-exponent-lt100 : goal.returns-then-exponent-lt100
+returns-then-exponent-lt100 c = none_small _ (omega arith)
 
-returns-2 : tie.Need-returns-2
-returns-2 c = none_large _ (omega arith)
+pub returns-then-exponent-gt140 : goal.returns-then-exponent-gt140
+returns-then-exponent-gt140 c = none_large _ (omega arith)
 
-add-result : tie.Need-overflow-add-result
-add-result c = let a = c.before.before.args in let l = shr_le (mantissa_of a.bits * 2000000) (150 - exponent_of a.bits) in omega arith
-
-returns-3 : tie.Need-returns-3
-returns-3 c = rounded _ (omega arith)
-
-pub millionths-spec : {M : Type 1} → statement M
-millionths-spec =
-    tie.close
-    (tie.spec (λ c. search rules) (λ c. search rules) returns returns-2 (λ c. search rules) (λ c. search rules)
-    (λ c. search rules) (λ c. search rules) add-result returns-3)
+pub returns : goal.returns
+returns c = rounded _ (omega arith)
