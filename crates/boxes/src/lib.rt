@@ -7,7 +7,7 @@ ghost use Rattle.boxes.specs.Placed.{Placed};
 pub const ANY: u32 = 0;
 
 // A box by its header: where it starts, its four letters as one number, how long the header is, and how large the whole box claims to be.
-#[derive(Drop)]
+#[derive(Clone, Copy)]
 pub struct Header {
     pub at: u64,
     pub kind: u32,
@@ -16,7 +16,7 @@ pub struct Header {
 }
 
 // What a walk comes to.
-#[derive(Drop)]
+#[derive(Clone, Copy)]
 pub enum Walked {
     // the box that was looked for, which lies within the room
     Found(Header),

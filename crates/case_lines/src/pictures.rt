@@ -16,14 +16,14 @@ use text::reading;
 pub const ROOM: usize = 20000;
 
 // What a line asks about a frame.
-#[derive(Drop)]
+#[derive(Clone, Copy)]
 pub enum FrameTask {
     Convert(Way),
     Judge(Way),
 }
 
 // What a line asks about the picture of its planes: convert it, judge what is claimed of it, or check it with this width, height and stride.
-#[derive(Drop)]
+#[derive(Clone, Copy)]
 enum PictureRequest {
     Convert(Way, Setting, Size),
     Judge(Way, Setting, Size),

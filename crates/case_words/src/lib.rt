@@ -27,20 +27,20 @@ const SAMPLES: u64 = sample::PAST_SAMPLES;
 const STOPPED: usize = LARGEST as usize;
 
 // A number, and the position after it.
-#[derive(Drop)]
+#[derive(Clone, Copy)]
 pub struct Step {
     pub value: u64,
     pub next: usize,
 }
 
-#[derive(Drop)]
+#[derive(Clone, Copy)]
 pub struct ReadPlane {
     pub length: usize,
     pub next: usize,
 }
 
 // What a line has before its planes, and the first word at fault.
-#[derive(Drop)]
+#[derive(Clone, Copy)]
 pub struct ReadPicture {
     pub setting: Setting,
     pub width: usize,

@@ -26,12 +26,12 @@ changed_places =
 
 -- YCgCo by the bits that Y has more than RGB, and the most that chroma may have more than Y
 abbrev pub ycgco : ℕ → ℕ → Entry
-ycgco yBits chromaBits =
+ycgco y_bits chroma_bits =
     record {
       formulas = YCgCo;
       deepest = most_depth;
-      bond = Bits yBits;
-      chroma_bits = chromaBits;
+      bond = Bits y_bits;
+      chroma_bits = chroma_bits;
       lossless = From 1;
       metered = false;
     }

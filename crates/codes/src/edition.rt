@@ -2,7 +2,7 @@
 ghost use Rattle.std.specs.Prelude.{◌≡◌};
 ghost use Rattle.codes.specs.Edition.{edition_of};
 
-#[derive(Drop)]
+#[derive(Clone, Copy)]
 pub enum Edition {
     // the text of 2021
     Of2021,
@@ -12,7 +12,7 @@ pub enum Edition {
     Published,
 }
 
-#[derive(Drop)]
+#[derive(Clone, Copy)]
 pub enum EditionChecked {
     Edition(Edition),
     Unknown,

@@ -6,14 +6,14 @@ use crate::edition::Edition;
 use crate::matrix::Matrix;
 
 // The three kinds of code point.
-#[derive(Drop)]
+#[derive(Clone, Copy)]
 pub enum CodeKind {
     Primaries,
     Transfer,
     Matrix,
 }
 
-#[derive(Drop)]
+#[derive(Clone, Copy)]
 pub enum Label {
     Assigned,
     Unspecified,

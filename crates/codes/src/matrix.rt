@@ -7,7 +7,7 @@ use crate::edition::Edition;
 use levels::equations::LevelMatrix;
 
 // How the samples of a matrix are made.
-#[derive(Drop)]
+#[derive(Clone, Copy)]
 pub enum Formulas {
     // planes change places (45 to 47)
     ChangePlaces,
@@ -18,7 +18,7 @@ pub enum Formulas {
 }
 
 // What binds the RGB side to the other.
-#[derive(Drop)]
+#[derive(Clone, Copy)]
 pub enum Bond {
     // Y has so many bits more than RGB, and both sides have one range
     Bits(u8),
@@ -27,7 +27,7 @@ pub enum Bond {
 }
 
 // Where a matrix loses nothing.
-#[derive(Drop)]
+#[derive(Clone, Copy)]
 pub enum Lossless {
     // where chroma has at least so many bits more than RGB
     From(u8),
@@ -35,7 +35,7 @@ pub enum Lossless {
 }
 
 // An entry of the table.
-#[derive(Drop)]
+#[derive(Clone, Copy)]
 pub struct Entry {
     pub formulas: Formulas,
     // the deepest sample
@@ -48,7 +48,7 @@ pub struct Entry {
     pub metered: bool,
 }
 
-#[derive(Drop)]
+#[derive(Clone, Copy)]
 pub enum Matrix {
     Served(Entry),
     Unserved,

@@ -11,7 +11,7 @@ use sample::Pixel;
 
 // What a run comes to, where no sample of its source is above its top: the index of the first pixel that is wrong, which is past the last where none
 // is, and how many are wrong.
-#[derive(Drop)]
+#[derive(Clone, Copy)]
 pub struct Tally {
     pub fine: bool,
     pub first: usize,

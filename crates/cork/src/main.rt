@@ -22,7 +22,7 @@ const EDITIONS: [u8; 20] = *b"2021 draft published";
 const PUBLISHED: u8 = 3;
 
 // The edition that a request is read by, and how many words named it.
-#[derive(Drop)]
+#[derive(Clone, Copy)]
 struct Said {
     edition: u8,
     words: u8,

@@ -7,7 +7,7 @@ use codes::edition::EditionChecked;
 use codes::label::{CodeKind, Label};
 use refusal::Refusal;
 
-#[derive(Drop)]
+#[derive(Clone, Copy)]
 pub enum LabelAnswer {
     Labelled(Label),
     Refused(Refusal),

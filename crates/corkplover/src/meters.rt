@@ -8,13 +8,13 @@ use sample::Pixel;
 use setting::admission::Admission;
 use setting::{Call, Setting};
 
-#[derive(Drop)]
+#[derive(Clone, Copy)]
 pub enum Reading {
     Level(f32),
     Refused(Refusal),
 }
 
-#[derive(Drop)]
+#[derive(Clone, Copy)]
 pub enum LevelsAnswer {
     Levels(PixelLevels),
     Refused(Refusal),

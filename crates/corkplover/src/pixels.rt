@@ -8,13 +8,13 @@ use sample::Pixel;
 use setting::admission::Admission;
 use setting::{Call, Setting, Way};
 
-#[derive(Drop)]
+#[derive(Clone, Copy)]
 pub enum PixelAnswer {
     Converted(Pixel),
     Refused(Refusal),
 }
 
-#[derive(Drop)]
+#[derive(Clone, Copy)]
 pub enum SourceAnswer {
     Yes,
     NoSource,

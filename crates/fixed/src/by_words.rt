@@ -10,7 +10,7 @@ use rounding::narrow;
 use sample::Pixel;
 
 // The sum of the high words and that of the low words.
-#[derive(Drop)]
+#[derive(Clone, Copy)]
 struct Sums {
     high: u64,
     low: u64,

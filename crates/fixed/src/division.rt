@@ -5,14 +5,14 @@ ghost use Rattle.fixed.specs.Words.{past_words, word};
 ghost use Rattle.fixed.specs.Steps.{Parts, BitsFit, InWords};
 
 // A quotient so far, and what is left over.
-#[derive(Drop)]
+#[derive(Clone, Copy)]
 pub struct Part {
     pub whole: u64,
     pub rest: u64,
 }
 
 // A number in two words, the low one of 32 bits.
-#[derive(Drop)]
+#[derive(Clone, Copy)]
 pub struct Wide {
     pub high: u64,
     pub low: u64,

@@ -6,7 +6,7 @@ ghost use Rattle.fixed.specs.Steps.{Lifts};
 use crate::reduce::Reduced;
 
 // The lift, and the constant that a line has then, over its e: 0 where there is no room.
-#[derive(Drop)]
+#[derive(Clone, Copy)]
 pub struct Lift {
     pub by: u64,
     pub c: u64,

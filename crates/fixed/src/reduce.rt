@@ -10,7 +10,7 @@ use levels::lines::Line;
 use rounding::common::common;
 
 // A weight without its sign: its size, its mark, and the product of the two.
-#[derive(Drop)]
+#[derive(Clone, Copy)]
 pub struct Size {
     pub a: u64,
     pub mark: u16,
@@ -18,14 +18,14 @@ pub struct Size {
 }
 
 // A difference: one of the two is 0.
-#[derive(Drop)]
+#[derive(Clone, Copy)]
 pub struct Difference {
     pub plus: u64,
     pub minus: u64,
 }
 
 // The line's numbers over e. The constant is plus - minus.
-#[derive(Drop)]
+#[derive(Clone, Copy)]
 pub struct Reduced {
     pub e: u64,
     pub first: Size,

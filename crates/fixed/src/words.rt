@@ -12,7 +12,7 @@ use crate::{division, lift, reduce};
 use levels::lines::Line;
 
 // A weight in parts of the unit, and where its sample is measured from.
-#[derive(Drop)]
+#[derive(Clone, Copy)]
 pub struct Weight {
     pub high: u32,
     pub low: u32,
@@ -21,7 +21,7 @@ pub struct Weight {
 
 // The numbers of a line, for samples up to `most`, in parts of a unit of 2^(32 + shift). `high` and `low` are the constant, with the
 // line lifted by `lift`; `add` makes up for what rounding down loses; `under` is what the lift has above the line's mid.
-#[derive(Drop)]
+#[derive(Clone, Copy)]
 pub struct Words {
     pub first: Weight,
     pub second: Weight,
@@ -36,14 +36,14 @@ pub struct Words {
     pub top: u16,
 }
 
-#[derive(Drop)]
+#[derive(Clone, Copy)]
 pub enum Prepared {
     Made(Words),
     Nothing,
 }
 
 // The four numbers of a line in two words each, before it is known whether they have room.
-#[derive(Drop)]
+#[derive(Clone, Copy)]
 pub(crate) struct Scaling {
     first: Wide,
     second: Wide,

@@ -14,7 +14,7 @@ use rows::paint::Size;
 use setting::admission::{Admission, Served};
 use setting::{Call, Setting, Way};
 
-#[derive(Drop)]
+#[derive(Clone, Copy)]
 pub enum FrameAnswer {
     Done,
     Refused(Refusal),

@@ -17,7 +17,7 @@ use setting::admission::Admission;
 use setting::{Call, Setting, Way};
 
 // Yes, or the first pixel without a source, by its row and column in a place of plane 0.
-#[derive(Drop)]
+#[derive(Clone, Copy)]
 pub enum ImageAnswer {
     Yes,
     NoSource(Place),

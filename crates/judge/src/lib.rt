@@ -18,7 +18,7 @@ use setting::admission::{Admission, Served};
 use setting::{Call, Setting, Way};
 
 // It agrees, or it differs: first at a place of plane 0, and at so many pixels.
-#[derive(Drop)]
+#[derive(Clone, Copy)]
 pub enum Judgement {
     Agrees,
     Differs(Place, u64),

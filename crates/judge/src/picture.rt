@@ -15,7 +15,7 @@ use sample::Pixel;
 use scan::Found;
 
 // What a picture comes to, where no sample of its source is above its top.
-#[derive(Drop)]
+#[derive(Clone, Copy)]
 pub struct Told {
     pub fine: bool,
     pub first: Found,

@@ -5,7 +5,7 @@ ghost use Rattle.levels.specs.Conversion.{Shares};
 ghost use Rattle.levels.specs.Equations.{all_parts, weights, equation_y, equation_pb, equation_pr, equation_r, equation_g, equation_b, luma_matrix};
 
 // One level by three others.
-#[derive(Drop)]
+#[derive(Clone, Copy)]
 pub struct Equation {
     pub up0: u64,
     pub up1: u64,
@@ -17,7 +17,7 @@ pub struct Equation {
 }
 
 // Three levels by three others, by plane.
-#[derive(Drop)]
+#[derive(Clone, Copy)]
 pub struct Equations {
     pub first: Equation,
     pub second: Equation,
@@ -25,14 +25,14 @@ pub struct Equations {
 }
 
 // R, G, B to Y, Cb, Cr and back.
-#[derive(Drop)]
+#[derive(Clone, Copy)]
 pub struct LevelMatrix {
     pub forward: Equations,
     pub reverse: Equations,
 }
 
 // KR, KG and KB, in parts of `all`.
-#[derive(Drop)]
+#[derive(Clone, Copy)]
 struct Weights {
     kr: u64,
     kg: u64,

@@ -1,5 +1,7 @@
 // The level matrices, prepared once for a setting. Equations over exact fractions are the definition. The code has one form for every
 // sample: three signed weights over one denominator, one Round, one Clip.
+#![tactic(auto)]
+
 pub mod by_lines;
 pub mod equations;
 pub mod lines;
@@ -16,7 +18,7 @@ use sample::Depths;
 pub const MOST_SAMPLE: u16 = (1 << sample::MOST_LEVEL_DEPTH) - 1;
 
 // The depths of a setting, and which of its sides are full range.
-#[derive(Drop)]
+#[derive(Clone, Copy)]
 pub struct LevelSetting {
     pub depths: Depths,
     pub rgb_full: bool,

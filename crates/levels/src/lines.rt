@@ -9,7 +9,7 @@ use scale::Scale;
 
 // One prepared sample: the equation's sum over the samples themselves, and up - down, over its denominator. That is rounded, mid is added,
 // and the result is brought into 0..top.
-#[derive(Drop)]
+#[derive(Clone, Copy)]
 pub struct Line {
     pub equation: Equation,
     pub up: u64,
@@ -19,14 +19,14 @@ pub struct Line {
 }
 
 // A line, and what stands for its divisor, which is twice its denominator.
-#[derive(Drop)]
+#[derive(Clone, Copy)]
 pub struct ReadyLine {
     pub line: Line,
     pub by: Divisor,
 }
 
 // The three samples of a pixel, by plane.
-#[derive(Drop)]
+#[derive(Clone, Copy)]
 pub struct Lines {
     pub first: ReadyLine,
     pub second: ReadyLine,
@@ -34,7 +34,7 @@ pub struct Lines {
 }
 
 // How a level E is written: Clip(Round(times E + plus) + mid) into 0..top.
-#[derive(Drop)]
+#[derive(Clone, Copy)]
 pub struct Writer {
     pub times: u64,
     pub plus: u64,
@@ -43,14 +43,14 @@ pub struct Writer {
 }
 
 // A sample's level is mul (v - plus) over a denominator that it shares with the two others.
-#[derive(Drop)]
+#[derive(Clone, Copy)]
 pub struct Reader {
     pub mul: u64,
     pub plus: u64,
 }
 
 // The three samples of a pixel: the first, the two that are read alike, and the denominator.
-#[derive(Drop)]
+#[derive(Clone, Copy)]
 pub struct Readers {
     pub first: Reader,
     pub rest: Reader,

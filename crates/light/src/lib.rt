@@ -14,7 +14,7 @@ use sample::Pixel;
 use scaled::Scaled;
 
 // The weights, and the numbers of the three planes.
-#[derive(Drop)]
+#[derive(Clone, Copy)]
 pub struct Light {
     pub mix: Mix,
     pub luma: Scaled,

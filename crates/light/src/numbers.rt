@@ -9,14 +9,14 @@ use rounding::common::common;
 use runs::Run;
 
 // q / e, in lower terms than it was.
-#[derive(Drop)]
+#[derive(Clone, Copy)]
 struct Ratio {
     q: u64,
     e: u64,
 }
 
 // Half a unit, and its bits past 31.
-#[derive(Drop)]
+#[derive(Clone, Copy)]
 struct Half {
     half: u64,
     shift: u32,

@@ -10,7 +10,7 @@ use crate::{Light, numbers};
 use levels::lines::{Line, Lines};
 use runs::{Run, Runs, mix};
 
-#[derive(Drop)]
+#[derive(Clone, Copy)]
 pub enum Answer {
     Made(Light),
     Nothing,

@@ -3,7 +3,7 @@ ghost use Rattle.std.specs.Prelude.{◌≡◌};
 ghost use Rattle.light.specs.Scaled.{Fits, scaled_sample};
 
 // What is rounded to a sample of a run, in parts of 2^(32 + shift), lifted above zero.
-#[derive(Drop)]
+#[derive(Clone, Copy)]
 pub struct Scaled {
     pub factor: u32,
     pub base: u64,

@@ -10,7 +10,7 @@ use crate::records::Said;
 use crate::{finding, records};
 
 // How a file is read: by its tracks, by its image, or by both.
-#[derive(Drop)]
+#[derive(Clone, Copy)]
 pub enum FileKind {
     Movie,
     Image,
@@ -19,7 +19,7 @@ pub enum FileKind {
 }
 
 // What all pictures of a file come to, what its image alone says, and how many of its tracks are pictures: 2 stands for several.
-#[derive(Drop)]
+#[derive(Clone, Copy)]
 pub struct FileSaid {
     pub said: Said,
     pub image: Said,
@@ -27,7 +27,7 @@ pub struct FileSaid {
 }
 
 // What the tracks come to, and how many of them are pictures, likewise.
-#[derive(Drop)]
+#[derive(Clone, Copy)]
 struct MovieSaid {
     said: Said,
     tracks: u8,

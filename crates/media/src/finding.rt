@@ -6,14 +6,14 @@ ghost use Rattle.media.specs.Inside.{Lying, Here, FoundIn};
 use boxes::{Header, Walked};
 
 // A part of a file: from one position to before another.
-#[derive(Drop)]
+#[derive(Clone, Copy)]
 pub struct Span {
     pub from: u64,
     pub end: u64,
 }
 
 // Why a file was not understood. Positions are counted from its start.
-#[derive(Drop)]
+#[derive(Clone, Copy)]
 pub enum Trouble {
     // nothing could be read
     Unread,
@@ -27,7 +27,7 @@ pub enum Trouble {
     Cut { at: u64, left: u64 },
 }
 
-#[derive(Drop)]
+#[derive(Clone, Copy)]
 pub enum Found {
     // what the box holds
     In(Span),

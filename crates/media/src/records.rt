@@ -9,7 +9,7 @@ use crate::finding::{Found, Trouble};
 use nclx::{ColourLabel, LabelRead};
 
 // The codes of an older record.
-#[derive(Drop)]
+#[derive(Clone, Copy)]
 pub struct Codes {
     pub primaries: u16,
     pub transfer: u16,
@@ -17,7 +17,7 @@ pub struct Codes {
 }
 
 // What a part of a file says of its colour.
-#[derive(Drop)]
+#[derive(Clone, Copy)]
 pub enum Said {
     // it is no picture
     Other,

@@ -1,4 +1,6 @@
 // The meter's levels. A level is the one float quotient of a numerator and a denominator that are both exact as floats.
+#![tactic(auto)]
+
 ghost use Rattle.std.specs.Prelude.{◌≡◌};
 ghost use Rattle.sample.specs.Depth.{Depth};
 ghost use Rattle.meter.specs.Level.{float_quotient, plane_number, scale_of, level_of, levels_of, Measurable};
@@ -7,14 +9,14 @@ use sample::{ChromaDepth, LumaDepth, Pixel};
 use scale::Scale;
 
 // The levels of one pixel, which travel together.
-#[derive(Drop)]
+#[derive(Clone, Copy)]
 pub struct PixelLevels {
     pub y: f32,
     pub cb: f32,
     pub cr: f32,
 }
 
-#[derive(Drop)]
+#[derive(Clone, Copy)]
 pub enum SampleKind {
     Y,
     Cb,

@@ -1,5 +1,7 @@
 // The colour label of a media file: the 'nclx' record of ISO/IEC 14496-12, read, written, and chosen of two. Eleven bytes: the four letters, three
 // codes of 16 bits, high byte first, and a byte whose highest bit is the full-range flag.
+#![tactic(auto)]
+
 ghost use Rattle.std.specs.Prelude.{◌≡◌};
 ghost use Rattle.nclx.specs.Record.{Sound, label_in, label_read};
 
@@ -16,7 +18,7 @@ pub const RECORD_BYTES: usize = 11;
 // The full-range flag in the last byte, in which nothing else may be set.
 const FLAG: u8 = 128;
 
-#[derive(Drop)]
+#[derive(Clone, Copy)]
 pub struct ColourLabel {
     pub primaries: u8,
     pub transfer: u8,
@@ -24,7 +26,7 @@ pub struct ColourLabel {
     pub full: bool,
 }
 
-#[derive(Drop)]
+#[derive(Clone, Copy)]
 pub enum LabelRead {
     Label(ColourLabel),
     Refused(Refusal),

@@ -8,7 +8,7 @@ use refusal::{Check, Refusal};
 // How long the part is that has the codes and the flag.
 const PART_BYTES: usize = 7;
 
-#[derive(Drop)]
+#[derive(Clone, Copy)]
 pub enum Choice {
     Container,
     Stream,

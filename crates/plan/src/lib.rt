@@ -12,7 +12,7 @@ use sample::Depths;
 use setting::Way;
 use setting::admission::Served;
 
-#[derive(Drop)]
+#[derive(Clone, Copy)]
 pub enum Plan {
     // planes change places
     PlacesForward,

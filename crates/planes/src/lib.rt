@@ -1,3 +1,5 @@
 // Planes and pictures, whatever the setting: which sizes are refused, and what fills a plane.
+#![tactic(auto)]
+
 pub mod fill;
 pub mod size;

@@ -11,7 +11,7 @@ const MOST_SIZE: usize = 8192;
 const MOST_STRIDE: usize = 16384;
 
 // How three planes lie in memory: their stride, and how many elements each has.
-#[derive(Drop)]
+#[derive(Clone, Copy)]
 pub struct Layout {
     pub stride: usize,
     pub n0: usize,
@@ -44,6 +44,7 @@ pub fn row_start(j: usize, height: usize, stride: usize) -> usize
 }
 
 // Whether n is below `least` or above `most`.
+#[tactic(auto, unfolding(crate::specs::Sizes::outside))]
 fn outside(n: usize, least: usize, most: usize) -> bool
     ensures { result ≡ outside n least most }
 {

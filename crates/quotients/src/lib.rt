@@ -13,14 +13,14 @@ use runs::mix::Mix;
 use sample::Pixel;
 
 // A factor, and how many parts it gives too many.
-#[derive(Drop)]
+#[derive(Clone, Copy)]
 pub struct Share {
     pub factor: u32,
     pub take: u32,
 }
 
 // The weights, the factor of Y, those of Cb and Cr, and the largest sample of all three.
-#[derive(Drop)]
+#[derive(Clone, Copy)]
 pub struct Quotients {
     pub mix: Mix,
     pub luma: u32,

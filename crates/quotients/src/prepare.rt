@@ -8,7 +8,7 @@ use crate::{Quotients, numbers};
 use levels::lines::Lines;
 use runs::{Runs, mix};
 
-#[derive(Drop)]
+#[derive(Clone, Copy)]
 pub enum Answer {
     Made(Quotients),
     Nothing,

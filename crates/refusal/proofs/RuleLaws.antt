@@ -39,7 +39,7 @@ unfolding first
 is_first [] x e = absurd (never_both x e)
 is_first (r ∷ rs) x e = is_step r.refusal x r.applies rs (is_first rs x) e
 
-first_is : {rs : List Rule} {x : Refusal} → FirstIs x rs → first rs ≡ Refused x
+first_is : {x : Refusal} {rs : List Rule} → FirstIs x rs → first rs ≡ Refused x
 unfolding first
 first_is here = refl
 first_is (later f) = first_is f

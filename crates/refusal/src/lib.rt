@@ -1,9 +1,11 @@
 // The one refusal type of every call: a number, and where that is 10 the sample, by its place and as it was found.
+#![tactic(auto)]
+
 ghost use Rattle.std.specs.Prelude.{◌≡◌};
 ghost use Rattle.refusal.specs.Rules.{at, numbered, bad_at};
 
 // Where a sample stands: its plane, row and column, counted from 0.
-#[derive(Drop)]
+#[derive(Clone, Copy)]
 pub struct Place {
     pub plane: u8,
     pub row: u16,
@@ -23,7 +25,7 @@ impl Place {
     }
 }
 
-#[derive(Drop)]
+#[derive(Clone, Copy)]
 pub struct Refusal {
     pub number: u8,
     pub place: Place,
@@ -32,7 +34,7 @@ pub struct Refusal {
 }
 
 // What the rules of a call come to.
-#[derive(Drop)]
+#[derive(Clone, Copy)]
 pub enum Check {
     Passed,
     Refused(Refusal),

@@ -12,7 +12,7 @@ use text::reading;
 use text::reading::Number;
 
 // What can be expected of a word.
-#[derive(Drop)]
+#[derive(Clone, Copy)]
 pub enum Expected {
     Verb,
     Primaries,
@@ -36,7 +36,7 @@ pub enum Expected {
 }
 
 // What the words come to: a request, or the first word that isn't what was expected there, and what was.
-#[derive(Drop)]
+#[derive(Clone, Copy)]
 pub enum Asked {
     For(Request),
     Fault { word: u8, expected: Expected },
@@ -51,19 +51,19 @@ pub const LARGEST_BYTE: u64 = 255;
 pub const LARGEST_SAMPLE: u64 = sample::PAST_SAMPLES - 1;
 
 // What one word stands for, or the setting's words or a pixel's, and the first word at fault among those that were read so far.
-#[derive(Drop)]
+#[derive(Clone, Copy)]
 pub struct ReadNumber {
     pub value: u64,
     pub fault: u8,
 }
 
-#[derive(Drop)]
+#[derive(Clone, Copy)]
 pub struct ReadSetting {
     pub setting: Setting,
     pub fault: u8,
 }
 
-#[derive(Drop)]
+#[derive(Clone, Copy)]
 struct ReadPixel {
     pixel: Pixel,
     fault: u8,

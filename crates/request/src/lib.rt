@@ -7,7 +7,7 @@ use refusal::Refusal;
 use sample::Pixel;
 use setting::{Call, Setting, Way};
 
-#[derive(Drop)]
+#[derive(Clone, Copy)]
 pub enum Request {
     // convert a pixel, check it for a source, or meter it
     Pixel(Call, Setting, Pixel),
@@ -18,7 +18,7 @@ pub enum Request {
 }
 
 // Samples come with the way that made them, a level as its bits.
-#[derive(Drop)]
+#[derive(Clone, Copy)]
 pub enum Answer {
     Samples(Way, Pixel),
     Source(bool),

@@ -1,4 +1,6 @@
 // Round and Clip, each with its one home. A number below zero is carried as the difference of two that are not.
+#![tactic(auto)]
+
 pub mod common;
 pub mod narrow;
 pub mod quotient;

@@ -5,7 +5,7 @@ ghost use Rattle.sample.specs.Depth.{past_samples};
 ghost use Rattle.rounding.specs.Quotient.{shift_of, divisor_of, Divides};
 
 // A divisor, and 2^48 over its leading bits: `shift` says how many others there are.
-#[derive(Drop)]
+#[derive(Clone, Copy)]
 pub struct Divisor {
     pub over: u64,
     pub shift: u64,

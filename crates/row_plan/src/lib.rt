@@ -19,7 +19,7 @@ use sample::{Depths, larger};
 use setting::admission::Served;
 use setting::{Call, Way};
 
-#[derive(Drop)]
+#[derive(Clone, Copy)]
 pub enum RowPlan {
     // the plan of one pixel
     Plan(Plan),
@@ -30,7 +30,7 @@ pub enum RowPlan {
 }
 
 // The words of three lines, by plane.
-#[derive(Drop)]
+#[derive(Clone, Copy)]
 pub struct WordPlanes {
     pub first: Words,
     pub second: Words,

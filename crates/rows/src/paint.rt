@@ -9,7 +9,7 @@ use row_plan::RowPlan;
 use sample::Pixel;
 
 // The sizes of a picture, and the strides of the planes that are read and of those that are written.
-#[derive(Drop)]
+#[derive(Clone, Copy)]
 pub struct Size {
     pub width: usize,
     pub height: usize,

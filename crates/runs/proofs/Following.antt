@@ -1,6 +1,6 @@
 -- Lines whose weights were found run with the light, and with how far a colour is from it: multiplied out, both sides have the same products.
 use mathlib.Core.Path.{◌≡◌, ap, sym, ◌∙◌}
-use Prim.Native.Nat.{ℕ, ◌+◌, ◌*◌, ◌-◌, ◌≤◌}
+use Prim.Native.Nat.{ℕ, ◌+◌, ◌*◌, ◌≤◌}
 use native.Mathlib.Nat.{mul-le-mul_left}
 use native.Mathlib.Omega.{arith}
 use Rattle.levels.specs.declared.lines.Line.{Line}

@@ -1,5 +1,7 @@
 // A pixel's light is R, G and B in one weighted sum. The lines of a luma matrix run evenly with it, and with how far B and R are from it: the
 // three runs are found once for many pixels, and what prepares numbers for a row starts from them.
+#![tactic(auto)]
+
 mod line;
 pub mod mix;
 mod weights;
@@ -12,7 +14,7 @@ ghost use Rattle.runs.specs.Found.{Answered};
 use levels::lines::Lines;
 
 // times (n - start) / over + level: what is rounded to a sample.
-#[derive(Drop)]
+#[derive(Clone, Copy)]
 pub struct Run {
     pub times: u64,
     pub over: u64,
@@ -21,7 +23,7 @@ pub struct Run {
 }
 
 // The weights of R, G and B, their sum, the largest light of samples up to `most`, and how each plane runs.
-#[derive(Drop)]
+#[derive(Clone, Copy)]
 pub struct Runs {
     pub kr: u64,
     pub kg: u64,
@@ -34,7 +36,7 @@ pub struct Runs {
     pub red: Run,
 }
 
-#[derive(Drop)]
+#[derive(Clone, Copy)]
 pub enum Found {
     Made(Runs),
     Nothing,

@@ -9,7 +9,7 @@ use levels::equations::Equation;
 use levels::lines::Line;
 
 // What a line adds of one colour, what it takes away of two, and all other weights together.
-#[derive(Drop)]
+#[derive(Clone, Copy)]
 pub struct Colour {
     pub own: u64,
     pub first: u64,

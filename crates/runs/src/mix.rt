@@ -8,7 +8,7 @@ use crate::Runs;
 use sample::Pixel;
 
 // The weights of R, G and B and their sum, and the largest light of samples up to `most`.
-#[derive(Drop)]
+#[derive(Clone, Copy)]
 pub struct Mix {
     pub kr: u16,
     pub kg: u16,

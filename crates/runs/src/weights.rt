@@ -6,7 +6,7 @@ use levels::equations::Equation;
 use rounding::common::common;
 
 // The weights of R, G and B and their sum, and what multiplies them.
-#[derive(Drop)]
+#[derive(Clone, Copy)]
 pub struct Weights {
     pub kr: u64,
     pub kg: u64,

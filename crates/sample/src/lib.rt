@@ -1,10 +1,12 @@
 // What every crate above speaks of: depths of three kinds that cannot be taken for each other, and a pixel.
+#![tactic(auto)]
+
 ghost use Rattle.std.specs.Prelude.{◌≡◌, ◌^◌, ◌≤◌, ◌<◌, max};
 ghost use Rattle.sample.specs.Depth.{most_depth, Depth, rgb_checked, luma_checked, chroma_checked, depths_checked, ThreeDepths, at_most, M, middle_of, S, tops};
 ghost use Rattle.sample.specs.Flag.{one_if};
 
 // Three samples, by plane: R, G, B on one side and Y, Cb, Cr on the other.
-#[derive(Drop)]
+#[derive(Clone, Copy)]
 pub struct Pixel {
     pub p0: u16,
     pub p1: u16,
@@ -12,7 +14,7 @@ pub struct Pixel {
 }
 
 // The two sides of a setting.
-#[derive(Drop)]
+#[derive(Clone, Copy)]
 pub enum Side {
     Rgb,
     Ycc,
@@ -36,28 +38,28 @@ pub const MOST_LEVEL_DEPTH: u8 = 12;
 // The first number past the samples of every depth.
 pub const PAST_SAMPLES: u64 = 1 << MOST_DEPTH;
 
-#[derive(Drop)]
+#[derive(Clone, Copy)]
 pub struct RgbDepth(pub u8);
 
-#[derive(Drop)]
+#[derive(Clone, Copy)]
 pub struct LumaDepth(pub u8);
 
-#[derive(Drop)]
+#[derive(Clone, Copy)]
 pub struct ChromaDepth(pub u8);
 
-#[derive(Drop)]
+#[derive(Clone, Copy)]
 pub enum RgbChecked {
     Depth(RgbDepth),
     Outside,
 }
 
-#[derive(Drop)]
+#[derive(Clone, Copy)]
 pub enum LumaChecked {
     Depth(LumaDepth),
     Outside,
 }
 
-#[derive(Drop)]
+#[derive(Clone, Copy)]
 pub enum ChromaChecked {
     Depth(ChromaDepth),
     Outside,
@@ -170,14 +172,14 @@ impl ChromaDepth {
 }
 
 // The depths of a setting, past their check.
-#[derive(Drop)]
+#[derive(Clone, Copy)]
 pub struct Depths {
     pub rgb: RgbDepth,
     pub luma: LumaDepth,
     pub chroma: ChromaDepth,
 }
 
-#[derive(Drop)]
+#[derive(Clone, Copy)]
 pub enum DepthsChecked {
     Depths(Depths),
     Outside,

@@ -1,4 +1,6 @@
 // What samples stand for. Formulas and the meter read them alike, and the numbers of narrow range stand here alone.
+#![tactic(auto)]
+
 ghost use Rattle.std.specs.Prelude.{◌≡◌};
 ghost use Rattle.sample.specs.Depth.{Depth};
 ghost use Rattle.scale.specs.Scale.{light_by, rgb_scale, luma_scale, chroma_scale};
@@ -6,7 +8,7 @@ ghost use Rattle.scale.specs.Scale.{light_by, rgb_scale, luma_scale, chroma_scal
 use sample::{ChromaDepth, LumaDepth, RgbDepth};
 
 // A sample v stands for (v - plus) / times.
-#[derive(Drop)]
+#[derive(Clone, Copy)]
 pub struct Scale {
     pub times: u64,
     pub plus: u64,

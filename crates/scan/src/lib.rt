@@ -1,4 +1,6 @@
 // Rule 10: the first sample of a picture that is beyond its depth.
+#![tactic(auto)]
+
 ghost use Rattle.std.specs.Prelude.{◌≡◌, true, ◌+◌, ◌≤◌, length};
 ghost use Rattle.planes.specs.Sizes.{Sized, Long, needed};
 ghost use Rattle.planes.specs.Picture.{picture};
@@ -9,14 +11,14 @@ use refusal::Place;
 use sample::{Pixel, larger};
 
 // What a search finds.
-#[derive(Drop)]
+#[derive(Clone, Copy)]
 pub enum Found {
     At(Place),
     Nothing,
 }
 
 // The same of a search for a bad sample: its place, and the number that stands there.
-#[derive(Drop)]
+#[derive(Clone, Copy)]
 pub enum Bad {
     At(Place, u16),
     Nothing,

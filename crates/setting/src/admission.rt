@@ -12,7 +12,7 @@ use refusal::Refusal;
 use sample::{ChromaDepth, Depths, DepthsChecked, LumaDepth, RgbDepth};
 
 // A setting that is not refused.
-#[derive(Drop)]
+#[derive(Clone, Copy)]
 pub struct Served {
     pub formulas: Formulas,
     pub depths: Depths,
@@ -20,7 +20,7 @@ pub struct Served {
     pub ycc_full: bool,
 }
 
-#[derive(Drop)]
+#[derive(Clone, Copy)]
 pub enum Admission {
     Admitted(Served),
     Refused(Refusal),

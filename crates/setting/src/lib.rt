@@ -7,7 +7,7 @@ ghost use Rattle.setting.specs.Call.{input_of, reads};
 use sample::Side;
 
 // A setting as it is handed in: any numbers at all.
-#[derive(Drop)]
+#[derive(Clone, Copy)]
 pub struct Setting {
     pub primaries: u8,
     pub transfer: u8,
@@ -22,14 +22,14 @@ pub struct Setting {
 }
 
 // R, G, B to Y, Cb, Cr, or back.
-#[derive(Drop)]
+#[derive(Clone, Copy)]
 pub enum Way {
     Forward,
     Reverse,
 }
 
 // What is asked of the box. Which refusals apply depends on it.
-#[derive(Drop)]
+#[derive(Clone, Copy)]
 pub enum Call {
     Convert(Way),
     Meter,

@@ -1,1 +1,2 @@
 // Lists by what stands at each index: definitions and laws alone, no code.
+#![tactic(auto)]

@@ -4,7 +4,7 @@ ghost use Rattle.text.specs.Words.{split, word_of, end_of, same_word, index_in, 
 ghost use Rattle.text.specs.Numerals.{number_of};
 
 // A decimal number that isn't too large, or anything else.
-#[derive(Drop)]
+#[derive(Clone, Copy)]
 pub enum Number {
     Value(u64),
     Nothing,

@@ -1,4 +1,6 @@
 // YCgCo, one pixel at a time. Nothing is negative on the way: the middle of the chroma plane is added before anything is taken away.
+#![tactic(auto)]
+
 ghost use Rattle.std.specs.Prelude.{◌≡◌};
 ghost use Rattle.sample.specs.Depth.{InsideRGB};
 ghost use Rattle.ycgco.specs.YCgCo.{lossy_forward, lossy_reverse, lossless_forward, lossless_reverse, LossyDepths, LosslessDepths};
