@@ -1,4 +1,6 @@
 // Settings, and which of rules 12, 1 to 7 and 11 refuses one first.
+#![tactic(auto)]
+
 pub mod admission;
 
 ghost use Rattle.std.specs.Prelude.{◌≡◌};
