@@ -1,5 +1,7 @@
 // Every request is passed on to its entry point, and the answers come back as one type. Samples come with the way that made them, a level as
 // its bits.
+#![tactic(auto)]
+
 ghost use Rattle.std.specs.Prelude.{◌≡◌};
 ghost use Rattle.corkplover.specs.Answers.{label_answer, pixel_answer, reading, levels_answer};
 ghost use Rattle.ask.specs.Answers.{of_pixel, of_source, of_reading, of_levels, of_label, ask_pixel, answer_to};

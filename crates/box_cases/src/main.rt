@@ -1,6 +1,28 @@
 // Answers the cases on standard input. What it writes is held to the stored answers.
-fn main() {
+#![tactic(auto)]
+
+ghost use Rattle.std.specs.Io.{ReadsAtMost};
+
+use std::io;
+use std::io::Read;
+
+// How many bytes of the input were read, of as many as there is room for.
+fn read_full(input: &mut impl Read, room: &mut [u8]) -> io::Result<usize>
+    ensures { ReadsAtMost result room.new }
+{
+    let mut done = 0;
+    while done < room.len() {
+        let n = input.read(&mut room[done..])?;
+        if n == 0 {
+            break;
+        }
+        done += n;
+    }
+    Ok(done)
+}
+
+fn main(rt: HostRuntime) -> io::Result<()> {
     let mut text = case_lines::room();
-    let n = io::read_full(0, &mut text);
-    case_lines::all(&text[..n]);
+    let n = read_full(&mut rt.stdin(), &mut text)?;
+    case_lines::all(&rt, &text[..n])
 }

@@ -100,14 +100,18 @@ module _ (s : List ℕ) (room kind : ℕ) where
     rest-found h e f = rest-now ∙ rw (e, f)
 
     -- what is no box ends the walk
-    pub rest_ended : OneOf (1 ∷ 2 ∷ 3 ∷ 4 ∷ 5 ∷ []) (Declared.tag_of the_type (box_at s room at)) → walked s room kind ≡ box_at s room at
+    pub rest_other : ((h : Header) → box_at s room at ≡ Found h → ⊥) → walked s room kind ≡ box_at s room at
     unfolding onward
-    rest_ended k = rest-now ∙ go (box_at s room at) k
+    rest_other k = rest-now ∙ go (box_at s room at) k
       where
-        go : (w : Walked) → OneOf (1 ∷ 2 ∷ 3 ∷ 4 ∷ 5 ∷ []) (Declared.tag_of the_type w) → onward kind (walked_from r.boxes s room kind) w ≡ w
-        go (Found h) k = absurd (miss (1 ∷ 2 ∷ 3 ∷ 4 ∷ 5 ∷ []) 0 tt k)
+        go : (w : Walked) → ((h : Header) → w ≡ Found h → ⊥) → onward kind (walked_from r.boxes s room kind) w ≡ w
+        go (Found h) k = absurd (k h refl)
         go (Beyond h) k = refl
         go (Small h) k = refl
         go (Further p) k = refl
         go (Cut p) k = refl
         go End k = refl
+
+    -- the same by the number of its variant
+    pub rest_ended : OneOf (1 ∷ 2 ∷ 3 ∷ 4 ∷ 5 ∷ []) (Declared.tag_of the_type (box_at s room at)) → walked s room kind ≡ box_at s room at
+    rest_ended k = rest_other (λ h e. miss (1 ∷ 2 ∷ 3 ∷ 4 ∷ 5 ∷ []) 0 tt (rw e at k))

@@ -1,4 +1,6 @@
 // The boxes of a media file (ISO/IEC 14496-12), found one after the other in the bytes that were read of it.
+#![tactic(auto)]
+
 ghost use Rattle.std.specs.Prelude.{◌≡◌, ◌+◌, ◌≤◌, ◌<◌, length, get_or};
 ghost use Rattle.boxes.specs.Boxes.{word_at, long_word_at, whole_of, wanted, fitted, long_box, box_at, walked};
 ghost use Rattle.boxes.specs.Placed.{Placed};
@@ -42,6 +44,7 @@ fn byte_at(part: &[u8], at: usize) -> u32
 }
 
 // The number that four bytes write, the high one first.
+#[tactic(auto, unfolding(crate::specs::Boxes::word_at))]
 pub fn word_at(part: &[u8], at: u64) -> u32
     requires { at + 4 ≤ length part.now }
     ensures { result ≡ word_at part.now at }
@@ -85,6 +88,7 @@ fn whole_of(size: u32, left: u64) -> u64
 }
 
 // Whether the claim of a header holds.
+#[tactic(auto, unfolding(crate::specs::Boxes::fitted))]
 fn fitted(h: Header, left: u64) -> Walked
     ensures { result ≡ fitted h left }
 {
@@ -99,6 +103,7 @@ fn fitted(h: Header, left: u64) -> Walked
 }
 
 // The box at a position whose size is written in 64 bits, after the letters.
+#[tactic(auto, unfolding(crate::specs::Boxes::long_box))]
 fn long_box(part: &[u8], at: u64, room: u64, kind: u32) -> Walked
     requires { at ≤ room }
     ensures { result ≡ long_box part.now room at kind }
@@ -121,6 +126,7 @@ fn long_box(part: &[u8], at: u64, room: u64, kind: u32) -> Walked
 }
 
 // The box at a position.
+#[tactic(auto, unfolding(crate::specs::Boxes::box_at))]
 fn box_at(part: &[u8], at: u64, room: u64) -> Walked
     requires { at ≤ room }
     ensures { result ≡ box_at part.now room at }

@@ -9,6 +9,7 @@ use corkplover::judging;
 use judge::Judgement;
 use rows::paint::Size;
 use setting::{Setting, Way};
+use std::io;
 
 fn judged(
     way: Way,
@@ -32,6 +33,7 @@ fn judged(
 
 // The claimed planes, with which the line ends.
 pub fn judge(
+    rt: &impl Print,
     line: &[u8],
     at: usize,
     way: Way,
@@ -40,7 +42,7 @@ pub fn judge(
     a0: &[u16],
     a1: &[u16],
     a2: &[u16],
-) {
+) -> io::Result<()> {
     let mut b0 = [0u16; ROOM];
     let mut b1 = [0u16; ROOM];
     let mut b2 = [0u16; ROOM];
@@ -48,11 +50,10 @@ pub fn judge(
     let p1 = plane(line, p0.next, &mut b1);
     let p2 = plane(line, p1.next, &mut b2);
     if p2.next != line.len() {
-        answer_lines::bad_line();
-        return;
+        return answer_lines::bad_line(rt);
     }
     let l0 = p0.length;
     let l1 = p1.length;
     let l2 = p2.length;
-    answer_lines::judgement(judged(way, s, z, a0, a1, a2, &b0[..l0], &b1[..l1], &b2[..l2]));
+    answer_lines::judgement(rt, judged(way, s, z, a0, a1, a2, &b0[..l0], &b1[..l1], &b2[..l2]))
 }

@@ -10,6 +10,7 @@ use frame::FrameAnswer;
 use request::form;
 use rows::paint::Size;
 use setting::{Setting, Way};
+use std::io;
 use text::reading;
 
 // The longest plane that there is room for.
@@ -52,6 +53,7 @@ fn convert(
 }
 
 fn convert_and_say(
+    rt: &impl Print,
     way: Way,
     s: Setting,
     z: Size,
@@ -61,19 +63,20 @@ fn convert_and_say(
     b0: &mut [u16],
     b1: &mut [u16],
     b2: &mut [u16],
-)
+) -> io::Result<()>
     ensures { PlanesAfter way s (input_picture z a0.now a1.now a2.now)
         (output_layout z (length b0.old) (length b1.old) (length b2.old))
         b0.new b1.new b2.new }
 {
-    answer_lines::frame(convert(way, s, z, a0, a1, a2, b0, b1, b2));
-    answer_lines::plane(b0);
-    answer_lines::plane(b1);
-    answer_lines::plane(b2);
+    answer_lines::frame(rt, convert(way, s, z, a0, a1, a2, b0, b1, b2))?;
+    answer_lines::plane(rt, b0)?;
+    answer_lines::plane(rt, b1)?;
+    answer_lines::plane(rt, b2)
 }
 
 // Output planes of the lengths that the line ends with, full of old contents.
 fn convert_into(
+    rt: &impl Print,
     line: &[u8],
     at: usize,
     way: Way,
@@ -82,14 +85,13 @@ fn convert_into(
     a0: &[u16],
     a1: &[u16],
     a2: &[u16],
-) {
+) -> io::Result<()> {
     let n0 = next_number(line, at, ROOM as u64);
     let n1 = next_number(line, n0.next, ROOM as u64);
     let n2 = next_number(line, n1.next, ROOM as u64);
     let fill = next_number(line, n2.next, form::LARGEST_SAMPLE);
     if fill.next != line.len() {
-        answer_lines::bad_line();
-        return;
+        return answer_lines::bad_line(rt);
     }
     let mut b0 = [0u16; ROOM];
     let mut b1 = [0u16; ROOM];
@@ -101,6 +103,7 @@ fn convert_into(
     let l1 = n1.value as usize;
     let l2 = n2.value as usize;
     convert_and_say(
+        rt,
         way,
         s,
         z,
@@ -110,11 +113,12 @@ fn convert_into(
         &mut b0[..l0],
         &mut b1[..l1],
         &mut b2[..l2],
-    );
+    )
 }
 
 // The image check, where the line ends with the last plane.
 fn check(
+    rt: &impl Print,
     line: &[u8],
     at: usize,
     s: Setting,
@@ -124,24 +128,23 @@ fn check(
     a0: &[u16],
     a1: &[u16],
     a2: &[u16],
-) {
+) -> io::Result<()> {
     if at != line.len() {
-        answer_lines::bad_line();
-        return;
+        return answer_lines::bad_line(rt);
     }
-    answer_lines::image(frames::image_check(s, width, height, stride, a0, a1, a2));
+    answer_lines::image(rt, frames::image_check(s, width, height, stride, a0, a1, a2))
 }
 
-fn on_planes(line: &[u8], at: usize, request: PictureRequest, a0: &[u16], a1: &[u16], a2: &[u16]) {
+fn on_planes(rt: &impl Print, line: &[u8], at: usize, request: PictureRequest, a0: &[u16], a1: &[u16], a2: &[u16]) -> io::Result<()> {
     match request {
-        PictureRequest::Convert(way, s, z) => convert_into(line, at, way, s, z, a0, a1, a2),
-        PictureRequest::Judge(way, s, z) => claims::judge(line, at, way, s, z, a0, a1, a2),
-        PictureRequest::Check(s, w, h, stride) => check(line, at, s, w, h, stride, a0, a1, a2),
+        PictureRequest::Convert(way, s, z) => convert_into(rt, line, at, way, s, z, a0, a1, a2),
+        PictureRequest::Judge(way, s, z) => claims::judge(rt, line, at, way, s, z, a0, a1, a2),
+        PictureRequest::Check(s, w, h, stride) => check(rt, line, at, s, w, h, stride, a0, a1, a2),
     }
 }
 
 // Three planes, from word `first` on.
-fn on_picture(line: &[u8], first: u8, request: PictureRequest) {
+fn on_picture(rt: &impl Print, line: &[u8], first: u8, request: PictureRequest) -> io::Result<()> {
     let mut a0 = [0u16; ROOM];
     let mut a1 = [0u16; ROOM];
     let mut a2 = [0u16; ROOM];
@@ -151,15 +154,14 @@ fn on_picture(line: &[u8], first: u8, request: PictureRequest) {
     let l0 = p0.length;
     let l1 = p1.length;
     let l2 = p2.length;
-    on_planes(line, p2.next, request, &a0[..l0], &a1[..l1], &a2[..l2]);
+    on_planes(rt, line, p2.next, request, &a0[..l0], &a1[..l1], &a2[..l2])
 }
 
-pub fn on_frame(line: &[u8], edition: u8, task: FrameTask) {
+pub fn on_frame(rt: &impl Print, line: &[u8], edition: u8, task: FrameTask) -> io::Result<()> {
     let p = picture_words(line, edition);
     let output = size_at(line, 12, p.fault);
     if output.fault != form::CLEAR {
-        answer_lines::bad_line();
-        return;
+        return answer_lines::bad_line(rt);
     }
     let setting = p.setting;
     let size = Size {
@@ -170,24 +172,25 @@ pub fn on_frame(line: &[u8], edition: u8, task: FrameTask) {
     };
     match task {
         FrameTask::Convert(way) => on_picture(
+            rt,
             line,
             13,
             PictureRequest::Convert(way, setting, size),
         ),
-        FrameTask::Judge(way) => on_picture(line, 13, PictureRequest::Judge(way, setting, size)),
+        FrameTask::Judge(way) => on_picture(rt, line, 13, PictureRequest::Judge(way, setting, size)),
     }
 }
 
-pub fn on_image(line: &[u8], edition: u8) {
+pub fn on_image(rt: &impl Print, line: &[u8], edition: u8) -> io::Result<()> {
     let p = picture_words(line, edition);
     if p.fault != form::CLEAR {
-        answer_lines::bad_line();
-        return;
+        return answer_lines::bad_line(rt);
     }
     let setting = p.setting;
     on_picture(
+        rt,
         line,
         12,
         PictureRequest::Check(setting, p.width, p.height, p.stride),
-    );
+    )
 }

@@ -1,5 +1,7 @@
 // The words of a case line that has planes or records. Word 9 and those after it are the sizes; then come the planes, which are long, so they are read forward from where
 // they start, and not word by number.
+#![tactic(auto)]
+
 ghost use Rattle.std.specs.Prelude.{◌≡◌, ◌≤◌, length};
 ghost use Rattle.case_words.specs.Lines.{size_word, picture_words, step_at, plane_at, plane_over, old_plane};
 

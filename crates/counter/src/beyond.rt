@@ -9,6 +9,7 @@ use refusal::Refusal;
 use request::Request;
 use sample::{MOST_DEPTH, Side};
 use setting::Setting;
+use std::io;
 
 // The depth of a plane, in bits.
 fn depth_of(side: Side, s: Setting, plane: u8) -> u8
@@ -35,44 +36,44 @@ fn largest(depth: u8) -> u16
     sample::largest(MOST_DEPTH)
 }
 
-fn plane_name(side: Side, plane: u8) {
+fn plane_name(rt: &impl Print, side: Side, plane: u8) -> io::Result<()> {
     match side {
         Side::Rgb => match plane {
-            0 => say(b"R"),
-            1 => say(b"G"),
-            _ => say(b"B"),
+            0 => say(rt, b"R"),
+            1 => say(rt, b"G"),
+            _ => say(rt, b"B"),
         },
         Side::Ycc => match plane {
-            0 => say(b"Y"),
-            1 => say(b"Cb"),
-            _ => say(b"Cr"),
+            0 => say(rt, b"Y"),
+            1 => say(rt, b"Cb"),
+            _ => say(rt, b"Cr"),
         },
     }
 }
 
-fn on_side(side: Side, s: Setting, r: Refusal) {
+fn on_side(rt: &impl Print, side: Side, s: Setting, r: Refusal) -> io::Result<()> {
     let place = r.place;
     let depth = depth_of(side, s, place.plane);
-    say(b"sample ");
-    number(r.sample as u64);
-    say(b" of plane ");
-    plane_name(side, place.plane);
-    say(b" at row ");
-    number(place.row as u64);
-    say(b", column ");
-    number(place.column as u64);
-    say(b" is above ");
-    number(largest(depth) as u64);
-    say(b", the largest at depth ");
-    number(depth as u64);
-    say(b"; correct the sample, or the depth");
+    say(rt, b"sample ")?;
+    number(rt, r.sample as u64)?;
+    say(rt, b" of plane ")?;
+    plane_name(rt, side, place.plane)?;
+    say(rt, b" at row ")?;
+    number(rt, place.row as u64)?;
+    say(rt, b", column ")?;
+    number(rt, place.column as u64)?;
+    say(rt, b" is above ")?;
+    number(rt, largest(depth) as u64)?;
+    say(rt, b", the largest at depth ")?;
+    number(rt, depth as u64)?;
+    say(rt, b"; correct the sample, or the depth")
 }
 
 // What a request was refused for with a 10. A label has no samples.
-pub fn sample(request: Request, r: Refusal) {
+pub fn sample(rt: &impl Print, request: Request, r: Refusal) -> io::Result<()> {
     match request {
-        Request::Pixel(call, s, _) => on_side(setting::reads(call), s, r),
-        Request::Sample(_, s, _) => on_side(Side::Ycc, s, r),
-        Request::Label(_, _, _) => wording::meaning(r.number),
+        Request::Pixel(call, s, _) => on_side(rt, setting::reads(call), s, r),
+        Request::Sample(_, s, _) => on_side(rt, Side::Ycc, s, r),
+        Request::Label(_, _, _) => wording::meaning(rt, r.number),
     }
 }

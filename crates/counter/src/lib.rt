@@ -1,4 +1,6 @@
 // What the counter says: answers, refusals and faults in words, with their numbers.
+#![tactic(auto)]
+
 mod beyond;
 pub mod saying;
 pub mod wording;

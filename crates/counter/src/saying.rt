@@ -10,64 +10,70 @@ use request::form::Expected;
 use request::{Answer, Request};
 use sample::Pixel;
 use setting::Way;
+use std::io;
 use text::reading;
 
 // The word at which reading stopped, counted with the words before these, and what was expected of it. Where none stands before them, word 1 could
 // have named an edition.
-pub fn fault(words: &[u8], before: u8, word: u8, expected: Expected) {
+pub fn fault(
+    rt: &impl Print,
+    words: &[u8],
+    before: u8,
+    word: u8,
+    expected: Expected,
+) -> io::Result<()> {
     let place = before as u64 + word as u64;
-    say(b"word ");
-    number(place + 1);
+    say(rt, b"word ")?;
+    number(rt, place + 1)?;
     if reading::has_word(words, GAP, word) {
-        say(b", '");
-        say(reading::word_at(words, GAP, word));
-        say(b"',");
+        say(rt, b", '")?;
+        say(rt, reading::word_at(words, GAP, word))?;
+        say(rt, b"',")?;
         if let Expected::NoMore = expected {
-            say(b" is one too many\n");
-            return;
+            return say(rt, b" is one too many\n");
         }
-        say(b" is not what belongs there");
+        say(rt, b" is not what belongs there")?;
     } else {
-        say(b" is missing");
+        say(rt, b" is missing")?;
     }
-    say(b"; expected: ");
+    say(rt, b"; expected: ")?;
     if place == 1 {
-        wording::editions();
-        say(b", or ");
+        wording::editions(rt)?;
+        say(rt, b", or ")?;
     }
-    wording::expected(expected);
-    say(b"\n");
+    wording::expected(rt, expected)?;
+    say(rt, b"\n")
 }
 
-fn refused(request: Request, r: Refusal) {
+fn refused(rt: &impl Print, request: Request, r: Refusal) -> io::Result<()> {
     let n = r.number;
-    say(b"refused ");
-    number(n as u64);
-    say(b": ");
+    say(rt, b"refused ")?;
+    number(rt, n as u64)?;
+    say(rt, b": ")?;
     if n == Refusal::SAMPLE_BEYOND_DEPTH {
-        beyond::sample(request, r);
+        beyond::sample(rt, request, r)?;
     } else {
-        wording::meaning(n);
+        wording::meaning(rt, n)?;
     }
-    say(b"\n");
+    say(rt, b"\n")
 }
 
 // Three samples, each after its name.
-fn samples(name0: &[u8], name1: &[u8], name2: &[u8], p: Pixel) {
-    say(name0);
-    number(p.p0 as u64);
-    say(name1);
-    number(p.p1 as u64);
-    say(name2);
-    number(p.p2 as u64);
-    say(b"\n");
+fn samples(rt: &impl Print, name0: &[u8], name1: &[u8], name2: &[u8], p: Pixel) -> io::Result<()> {
+    say(rt, name0)?;
+    number(rt, p.p0 as u64)?;
+    say(rt, name1)?;
+    number(rt, p.p1 as u64)?;
+    say(rt, name2)?;
+    number(rt, p.p2 as u64)?;
+    say(rt, b"\n")
 }
 
 // The way that made the samples says which three they are.
-fn converted(way: Way, p: Pixel) {
+fn converted(rt: &impl Print, way: Way, p: Pixel) -> io::Result<()> {
     match way {
-        Way::Forward => samples(b"Y ", b"  Cb ", b"  Cr ", p),
-        Way::Reverse => samples(b"R ", b"  G ", b"  B ", p),
+        Way::Forward => samples(rt, b"Y ", b"  Cb ", b"  Cr ", p),
+        Way::Reverse => samples(rt, b"R ", b"  G ", b"  B ", p),
     }
 }
 
@@ -89,59 +95,61 @@ fn millionths(bits: u32) -> u64
     (halves + 1) / 2
 }
 
-fn digit(n: u64) {
-    number(n % 10);
+fn digit(rt: &impl Print, n: u64) -> io::Result<()> {
+    number(rt, n % 10)
 }
 
 // The level as a decimal, and the float itself by its bits.
-fn level(name: &[u8], bits: u32) {
-    say(name);
-    say(b" level ");
+fn level(rt: &impl Print, name: &[u8], bits: u32) -> io::Result<()> {
+    say(rt, name)?;
+    say(rt, b" level ")?;
     if 2147483647 < bits {
-        say(b"-");
+        say(rt, b"-")?;
     }
     let m = millionths(bits);
-    number(m / 1000000);
-    say(b".");
-    digit(m / 100000);
-    digit(m / 10000);
-    digit(m / 1000);
-    digit(m / 100);
-    digit(m / 10);
-    digit(m);
-    say(b" (float bits ");
-    hex(bits);
-    say(b")\n");
+    number(rt, m / 1000000)?;
+    say(rt, b".")?;
+    digit(rt, m / 100000)?;
+    digit(rt, m / 10000)?;
+    digit(rt, m / 1000)?;
+    digit(rt, m / 100)?;
+    digit(rt, m / 10)?;
+    digit(rt, m)?;
+    say(rt, b" (float bits ")?;
+    hex(rt, bits)?;
+    say(rt, b")\n")
 }
 
-fn label(l: Label) {
+fn label(rt: &impl Print, l: Label) -> io::Result<()> {
     match l {
-        Label::Assigned => say(b"assigned\n"),
-        Label::Unspecified => say(b"unspecified\n"),
-        Label::Reserved => say(b"reserved\n"),
+        Label::Assigned => say(rt, b"assigned\n"),
+        Label::Unspecified => say(rt, b"unspecified\n"),
+        Label::Reserved => say(rt, b"reserved\n"),
     }
 }
 
-fn source(found: bool) {
+fn source(rt: &impl Print, found: bool) -> io::Result<()> {
     if found {
-        say(b"yes: an RGB pixel within depth converts to this one\n");
-        return;
+        return say(rt, b"yes: an RGB pixel within depth converts to this one\n");
     }
-    say(b"none: no RGB pixel within depth converts to this one\n");
+    say(
+        rt,
+        b"none: no RGB pixel within depth converts to this one\n",
+    )
 }
 
 // The answer to a request, which tells what a refused sample was measured by.
-pub fn answer(request: Request, a: Answer) {
+pub fn answer(rt: &impl Print, request: Request, a: Answer) -> io::Result<()> {
     match a {
-        Answer::Samples(way, p) => converted(way, p),
-        Answer::Source(found) => source(found),
-        Answer::Level(bits) => level(b"sample", bits),
+        Answer::Samples(way, p) => converted(rt, way, p),
+        Answer::Source(found) => source(rt, found),
+        Answer::Level(bits) => level(rt, b"sample", bits),
         Answer::Levels(y, cb, cr) => {
-            level(b"Y", y);
-            level(b"Cb", cb);
-            level(b"Cr", cr);
+            level(rt, b"Y", y)?;
+            level(rt, b"Cb", cb)?;
+            level(rt, b"Cr", cr)
         }
-        Answer::Label(l) => label(l),
-        Answer::Refused(r) => refused(request, r),
+        Answer::Label(l) => label(rt, l),
+        Answer::Refused(r) => refused(rt, request, r),
     }
 }

@@ -1,4 +1,6 @@
 // The label of a media file: the file is opened, its colour records are found, and what they say is said.
+#![tactic(auto)]
+
 ghost use Rattle.std.specs.Prelude.{◌≡◌};
 ghost use Rattle.file_label.specs.Length.{length_of};
 
@@ -13,112 +15,114 @@ use media::records::Said;
 use media::{file, finding};
 use output::{number, say};
 use request::form::Expected;
+use std::env::{Env, FillError};
+use std::fs::{File, Files};
+use std::io;
+use std::io::{Seek, SeekFrom};
+use std::os::unix::fs::FileExt;
 use text::reading;
 
 // One track, counted from 1 among all of the file, where it is a picture.
-fn track(n: u64, said: Said) {
+fn track(rt: &impl Print, n: u64, said: Said) -> io::Result<()> {
     let Said::Other = said else {
-        say(b"track ");
-        number(n);
-        say(b": ");
-        sentence(said);
-        return;
+        say(rt, b"track ")?;
+        number(rt, n)?;
+        say(rt, b": ")?;
+        return sentence(rt, said);
     };
+    Ok(())
 }
 
 // A line for each track of pictures.
-fn tracks(fd: i32, from: u64, end: u64) {
+fn tracks(rt: &impl Print, source: &impl FileExt, from: u64, end: u64) -> io::Result<()> {
     let mut n: u64 = 0;
     let mut at = from;
     while at < end {
-        match finding::find(fd, at, end, file::TRAK, 0) {
+        match finding::find(source, at, end, file::TRAK, 0) {
             Found::In(s) => {
                 n += 1;
-                track(n, file::track_said(fd, s.from, s.end));
+                track(rt, n, file::track_said(source, s.from, s.end))?;
                 at = s.end;
             }
-            Found::Nothing => return,
-            Found::Bad(_) => return,
+            Found::Nothing => return Ok(()),
+            Found::Bad(_) => return Ok(()),
         }
     }
+    Ok(())
 }
 
 // A line for the image, where there is one beside the tracks, and the tracks'.
-fn parts(fd: i32, size: u64, image: Said) {
-    match file::movie(fd, size) {
+fn parts(rt: &impl Print, source: &impl FileExt, size: u64, image: Said) -> io::Result<()> {
+    match file::movie(source, size) {
         Found::In(s) => {
             let Said::Other = image else {
-                say(b"image: ");
-                sentence(image);
-                tracks(fd, s.from, s.end);
-                return;
+                say(rt, b"image: ")?;
+                sentence(rt, image)?;
+                return tracks(rt, source, s.from, s.end);
             };
-            tracks(fd, s.from, s.end);
+            tracks(rt, source, s.from, s.end)
         }
-        Found::Nothing => (),
-        Found::Bad(_) => (),
+        Found::Nothing => Ok(()),
+        Found::Bad(_) => Ok(()),
     }
 }
 
 // The answer, and what it is made of where that is more than one picture.
-fn answer(fd: i32, size: u64, f: FileSaid) {
+fn answer(rt: &impl Print, source: &impl FileExt, size: u64, f: FileSaid) -> io::Result<()> {
     let said = f.said;
     let image = f.image;
-    sentence(said);
+    sentence(rt, said)?;
     if 1 < f.tracks {
-        parts(fd, size, image);
-        return;
+        return parts(rt, source, size, image);
     }
     if let Said::Differ = said {
-        parts(fd, size, image);
+        return parts(rt, source, size, image);
     }
+    Ok(())
 }
 
 // A length as the system told it, or 0 where it told none.
-fn length_of(end: i64) -> u64
-    ensures { result ≡ length_of end }
+fn length_of(told: io::Result<u64>) -> u64
+    ensures { result ≡ length_of told }
 {
-    if end < 0 {
-        return 0;
+    match told {
+        Ok(end) => end,
+        Err(_) => 0,
     }
-    end as u64
 }
 
-fn opened(fd: i32) {
-    let size = length_of(libc::lseek(fd, 0, libc::SEEK_END));
-    answer(fd, size, file::file_said(fd, size));
+fn opened(rt: &impl Print, mut source: File) -> io::Result<()> {
+    let size = length_of(source.seek(SeekFrom::End(0)));
+    answer(rt, &source, size, file::file_said(&source, size))
 }
 
-fn unopened() {
-    say(b"cannot open the file: ");
-    words::reason(os::errno());
+fn unopened(rt: &impl Print, error: i32) -> io::Result<()> {
+    say(rt, b"cannot open the file: ")?;
+    words::reason(rt, error)
 }
 
-fn named(path: &[u8]) {
-    let fd = os::open_read(path);
-    if fd < 0 {
-        unopened();
-        return;
+fn named(rt: &(impl Files<File = File> + Print), path: &[u8]) -> io::Result<()> {
+    let Ok(name) = str::from_utf8(path) else {
+        return unopened(rt, words::EILSEQ);
+    };
+    match File::open(rt, name) {
+        Ok(source) => opened(rt, source),
+        Err(e) => unopened(rt, finding::reason_of(e)),
     }
-    opened(fd);
-    libc::close(fd);
 }
 
 // The file's name is taken whole, as the command line has it, and not from these words, which are cut.
-pub fn asked(words: &[u8]) {
+pub fn asked(rt: &(impl Env + Files<File = File> + Print), words: &[u8]) -> io::Result<()> {
     if reading::has_word(words, GAP, 2) {
-        saying::fault(words, 0, 2, Expected::NoMore);
-        return;
+        return saying::fault(rt, words, 0, 2, Expected::NoMore);
     }
     if reading::has_word(words, GAP, 1) {
-        let mut path = io::buffer();
-        let n = os::arg(2, &mut path);
-        if os::errno() != 0 {
-            unopened();
-            return;
-        }
-        named(&path[..n]);
-        return;
+        let mut path = [0u8; 4096];
+        return match rt.arg(2, &mut path) {
+            Ok(n) => named(rt, &path[..n]),
+            Err(FillError::TooLong) => unopened(rt, words::ENAMETOOLONG),
+            Err(FillError::NotPresent) => unopened(rt, words::EINVAL),
+        };
     }
-    say(b"word 2 is missing; expected: the name of an MP4, MOV or AVIF file\n");
+    say(rt, b"word 2 is missing; expected: the name of an MP4, MOV or AVIF file\n")
 }

@@ -8,18 +8,38 @@ use media::finding::Trouble;
 use media::records::{Codes, Said};
 use nclx::ColourLabel;
 use output::{number, say};
+use std::io;
+
+// The system's numbers for why a call failed.
+const ENOENT: i32 = 2;
+
+const EIO: i32 = 5;
+
+const EACCES: i32 = 13;
+
+const ENOTDIR: i32 = 20;
+
+const EISDIR: i32 = 21;
+
+pub const EINVAL: i32 = 22;
+
+pub const ENAMETOOLONG: i32 = 36;
+
+// That of a name that is no text.
+pub const EILSEQ: i32 = 84;
 
 // Why the system did not let a file be opened or read. Without an error the file ended before it should have.
-pub fn reason(error: i32) {
+pub fn reason(rt: &impl Print, error: i32) -> io::Result<()> {
     match error {
-        0 => say(b"it ended too early\n"),
-        libc::ENOENT => say(b"no such file\n"),
-        libc::EACCES => say(b"no permission\n"),
-        libc::ENOTDIR => say(b"a part of its name is no folder\n"),
-        libc::EISDIR => say(b"it is a folder\n"),
-        libc::ENAMETOOLONG => say(b"its name is too long\n"),
-        libc::EIO => say(b"its device fails\n"),
-        _ => say(b"the system refuses it\n"),
+        0 => say(rt, b"it ended too early\n"),
+        ENOENT => say(rt, b"no such file\n"),
+        EACCES => say(rt, b"no permission\n"),
+        ENOTDIR => say(rt, b"a part of its name is no folder\n"),
+        EISDIR => say(rt, b"it is a folder\n"),
+        ENAMETOOLONG => say(rt, b"its name is too long\n"),
+        EIO => say(rt, b"its device fails\n"),
+        EILSEQ => say(rt, b"its name is not in UTF-8\n"),
+        _ => say(rt, b"the system refuses it\n"),
     }
 }
 
@@ -36,7 +56,7 @@ fn shown(byte: u32) -> u8
     byte as u8
 }
 
-fn box_name(h: Header) {
+fn box_name(rt: &impl Print, h: Header) -> io::Result<()> {
     let kind = h.kind;
     let letters = [
         shown(kind / 16777216),
@@ -44,106 +64,105 @@ fn box_name(h: Header) {
         shown(kind / 256 % 256),
         shown(kind % 256),
     ];
-    say(b"damaged file: box '");
-    say(&letters);
-    say(b"' at byte ");
-    number(h.at);
-    say(b" claims ");
-    number(h.size);
-    say(b" bytes, and ");
+    say(rt, b"damaged file: box '")?;
+    say(rt, &letters)?;
+    say(rt, b"' at byte ")?;
+    number(rt, h.at)?;
+    say(rt, b" claims ")?;
+    number(rt, h.size)?;
+    say(rt, b" bytes, and ")
 }
 
-fn trouble(t: Trouble) {
+fn trouble(rt: &impl Print, t: Trouble) -> io::Result<()> {
     match t {
-        Trouble::Unread => {
-            say(b"cannot read the file: ");
-            reason(os::errno());
+        Trouble::Unread(error) => {
+            say(rt, b"cannot read the file: ")?;
+            reason(rt, error)
         }
-        Trouble::Stranger => say(b"not an MP4, MOV or AVIF file: it does not begin as one\n"),
+        Trouble::Stranger => say(rt, b"not an MP4, MOV or AVIF file: it does not begin as one\n"),
         Trouble::Beyond { header, left } => {
-            box_name(header);
-            number(left);
-            say(b" are left\n");
+            box_name(rt, header)?;
+            number(rt, left)?;
+            say(rt, b" are left\n")
         }
         Trouble::Small { header, least } => {
-            box_name(header);
-            number(least);
-            say(b" are the least that it takes\n");
+            box_name(rt, header)?;
+            number(rt, least)?;
+            say(rt, b" are the least that it takes\n")
         }
         Trouble::Cut { at, left } => {
-            say(b"damaged file: a box should begin at byte ");
-            number(at);
-            say(b", and ");
-            number(left);
-            say(b" bytes are left, too few for one\n");
+            say(rt, b"damaged file: a box should begin at byte ")?;
+            number(rt, at)?;
+            say(rt, b", and ")?;
+            number(rt, left)?;
+            say(rt, b" bytes are left, too few for one\n")
         }
     }
 }
 
-fn codes(primaries: u16, transfer: u16, matrix: u16) {
-    say(b"primaries ");
-    number(primaries as u64);
-    say(b" (");
-    names::primaries(primaries);
-    say(b"), transfer ");
-    number(transfer as u64);
-    say(b" (");
-    names::transfer(transfer);
-    say(b"), matrix ");
-    number(matrix as u64);
-    names::matrix(matrix);
-    say(b", ");
+fn codes(rt: &impl Print, primaries: u16, transfer: u16, matrix: u16) -> io::Result<()> {
+    say(rt, b"primaries ")?;
+    number(rt, primaries as u64)?;
+    say(rt, b" (")?;
+    names::primaries(rt, primaries)?;
+    say(rt, b"), transfer ")?;
+    number(rt, transfer as u64)?;
+    say(rt, b" (")?;
+    names::transfer(rt, transfer)?;
+    say(rt, b"), matrix ")?;
+    number(rt, matrix as u64)?;
+    names::matrix(rt, matrix)?;
+    say(rt, b", ")
 }
 
-fn range(full: bool) {
+fn range(rt: &impl Print, full: bool) -> io::Result<()> {
     if full {
-        say(b"full");
-        return;
+        return say(rt, b"full");
     }
-    say(b"narrow");
+    say(rt, b"narrow")
 }
 
 // A label, and the words of a setting that it gives.
-fn label(l: ColourLabel) {
-    codes(l.primaries as u16, l.transfer as u16, l.matrix as u16);
-    range(l.full);
-    say(b"; in cork's words: ");
-    number(l.primaries as u64);
-    say(b" ");
-    number(l.transfer as u64);
-    say(b" ");
-    number(l.matrix as u64);
-    say(b" .. .. .. .. ");
-    range(l.full);
-    say(b"\n");
+fn label(rt: &impl Print, l: ColourLabel) -> io::Result<()> {
+    codes(rt, l.primaries as u16, l.transfer as u16, l.matrix as u16)?;
+    range(rt, l.full)?;
+    say(rt, b"; in cork's words: ")?;
+    number(rt, l.primaries as u64)?;
+    say(rt, b" ")?;
+    number(rt, l.transfer as u64)?;
+    say(rt, b" ")?;
+    number(rt, l.matrix as u64)?;
+    say(rt, b" .. .. .. .. ")?;
+    range(rt, l.full)?;
+    say(rt, b"\n")
 }
 
-fn older(c: Codes) {
-    say(b"older label: ");
-    codes(c.primaries, c.transfer, c.matrix);
-    say(b"without a range flag (nclc); find out whether its range is narrow or full\n");
+fn older(rt: &impl Print, c: Codes) -> io::Result<()> {
+    say(rt, b"older label: ")?;
+    codes(rt, c.primaries, c.transfer, c.matrix)?;
+    say(rt, b"without a range flag (nclc); find out whether its range is narrow or full\n")
 }
 
-fn refused(n: u8) {
-    say(b"refused ");
-    number(n as u64);
-    say(b": ");
-    wording::meaning(n);
-    say(b"\n");
+fn refused(rt: &impl Print, n: u8) -> io::Result<()> {
+    say(rt, b"refused ")?;
+    number(rt, n as u64)?;
+    say(rt, b": ")?;
+    wording::meaning(rt, n)?;
+    say(rt, b"\n")
 }
 
 // A sentence, with its line's end.
-pub fn sentence(said: Said) {
+pub fn sentence(rt: &impl Print, said: Said) -> io::Result<()> {
     match said {
-        Said::Other => say(b"no colour record: the file has no pictures\n"),
-        Said::Nothing => say(b"no colour record: nothing says what its colours mean\n"),
-        Said::Profile => say(b"ICC profile: it has that instead of a colour record\n"),
-        Said::Older(c) => older(c),
-        Said::Label(l) => label(l),
-        Said::Refused(n) => refused(n),
+        Said::Other => say(rt, b"no colour record: the file has no pictures\n"),
+        Said::Nothing => say(rt, b"no colour record: nothing says what its colours mean\n"),
+        Said::Profile => say(rt, b"ICC profile: it has that instead of a colour record\n"),
+        Said::Older(c) => older(rt, c),
+        Said::Label(l) => label(rt, l),
+        Said::Refused(n) => refused(rt, n),
         Said::Differ => {
-            say(b"differing records: the file has colour records that do not agree\n")
+            say(rt, b"differing records: the file has colour records that do not agree\n")
         }
-        Said::Bad(t) => trouble(t),
+        Said::Bad(t) => trouble(rt, t),
     }
 }

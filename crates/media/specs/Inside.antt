@@ -31,7 +31,7 @@ pub record Part (from end : ℕ) (s : Span) : Type 0 where
 
 -- the box that trouble is with
 abbrev pub TroubleIn : ℕ → ℕ → Trouble → Type 0
-TroubleIn from end trouble.Unread = 0 ≤ end
+TroubleIn from end (trouble.Unread error) = 0 ≤ end
 TroubleIn from end trouble.Stranger = 0 ≤ end
 TroubleIn from end (trouble.Beyond h left) = Between from end h.at
 TroubleIn from end (trouble.Small h least) = Between from end h.at

@@ -8,6 +8,7 @@ ghost use Rattle.media.specs.Saying.{of_movie, of_image, of_both};
 use crate::finding::{Found, META, STSD, Trouble};
 use crate::records::Said;
 use crate::{finding, records};
+use std::os::unix::fs::FileExt;
 
 // How a file is read: by its tracks, by its image, or by both.
 #[derive(Clone, Copy)]
@@ -140,15 +141,15 @@ fn is_picture(handler: u64) -> bool
 }
 
 // What a track's descriptions of its pictures say.
-fn entries_said(fd: i32, from: u64, end: u64) -> Said
+fn entries_said(file: &impl FileExt, from: u64, end: u64) -> Said
     ensures { SaidIn from end result }
 {
     let mut said = Said::Other;
     let mut at = from;
     while at < end {
-        match finding::find(fd, at, end, boxes::ANY, ENTRY_BYTES) {
+        match finding::find(file, at, end, boxes::ANY, ENTRY_BYTES) {
             Found::In(s) => {
-                said = records::across(said, records::records_said(fd, s.from, s.end));
+                said = records::across(said, records::records_said(file, s.from, s.end));
                 at = s.end;
             }
             Found::Nothing => return said,
@@ -158,26 +159,26 @@ fn entries_said(fd: i32, from: u64, end: u64) -> Said
     said
 }
 
-fn descriptions_said(fd: i32, from: u64, end: u64) -> Said
+fn descriptions_said(file: &impl FileExt, from: u64, end: u64) -> Said
     requires { from ≤ end }
     ensures { SaidIn from end result }
 {
-    match finding::descend(fd, from, end, &[MINF, STBL, STSD]) {
-        Found::In(s) => records::beside(Said::Nothing, entries_said(fd, s.from, s.end)),
+    match finding::descend(file, from, end, &[MINF, STBL, STSD]) {
+        Found::In(s) => records::beside(Said::Nothing, entries_said(file, s.from, s.end)),
         Found::Nothing => Said::Nothing,
         Found::Bad(t) => Said::Bad(t),
     }
 }
 
 // What a track says, by its media.
-fn media_said(fd: i32, from: u64, end: u64) -> Said
+fn media_said(file: &impl FileExt, from: u64, end: u64) -> Said
     requires { from ≤ end }
     ensures { SaidIn from end result }
 {
-    match finding::find(fd, from, end, HDLR, 8) {
+    match finding::find(file, from, end, HDLR, 8) {
         Found::In(s) => {
-            if is_picture(finding::number_at(fd, s.from, s.end)) {
-                return descriptions_said(fd, from, end);
+            if is_picture(finding::number_at(file, s.from, s.end)) {
+                return descriptions_said(file, from, end);
             }
             Said::Other
         }
@@ -186,11 +187,11 @@ fn media_said(fd: i32, from: u64, end: u64) -> Said
     }
 }
 
-pub fn track_said(fd: i32, from: u64, end: u64) -> Said
+pub fn track_said(file: &impl FileExt, from: u64, end: u64) -> Said
     ensures { SaidIn from end result }
 {
-    match finding::find(fd, from, end, MDIA, 0) {
-        Found::In(s) => media_said(fd, s.from, s.end),
+    match finding::find(file, from, end, MDIA, 0) {
+        Found::In(s) => media_said(file, s.from, s.end),
         Found::Nothing => Said::Other,
         Found::Bad(t) => Said::Bad(t),
     }
@@ -210,16 +211,16 @@ fn counted(tracks: u8, said: Said) -> u8
     tracks
 }
 
-fn tracks_said(fd: i32, from: u64, end: u64) -> MovieSaid
+fn tracks_said(file: &impl FileExt, from: u64, end: u64) -> MovieSaid
     ensures { SaidIn from end result.said }
 {
     let mut said = Said::Other;
     let mut tracks: u8 = 0;
     let mut at = from;
     while at < end {
-        match finding::find(fd, at, end, TRAK, 0) {
+        match finding::find(file, at, end, TRAK, 0) {
             Found::In(s) => {
-                let one = track_said(fd, s.from, s.end);
+                let one = track_said(file, s.from, s.end);
                 said = records::across(said, one);
                 tracks = counted(tracks, one);
                 at = s.end;
@@ -235,30 +236,30 @@ fn tracks_said(fd: i32, from: u64, end: u64) -> MovieSaid
 }
 
 // The part of a file that has its tracks.
-pub fn movie(fd: i32, size: u64) -> Found
+pub fn movie(file: &impl FileExt, size: u64) -> Found
     ensures { Here 0 size result }
 {
-    finding::descend(fd, 0, size, &[MOOV])
+    finding::descend(file, 0, size, &[MOOV])
 }
 
-fn image_said(fd: i32, size: u64) -> Said
+fn image_said(file: &impl FileExt, size: u64) -> Said
     ensures { SaidIn 0 size result }
 {
-    match finding::descend(fd, 0, size, &[META, IPRP, IPCO]) {
-        Found::In(s) => records::records_said(fd, s.from, s.end),
+    match finding::descend(file, 0, size, &[META, IPRP, IPCO]) {
+        Found::In(s) => records::records_said(file, s.from, s.end),
         Found::Nothing => Said::Nothing,
         Found::Bad(t) => Said::Bad(t),
     }
 }
 
 // What the tracks say. A file without any may still have an image, as one of another brand.
-fn movie_said(fd: i32, size: u64) -> MovieSaid
+fn movie_said(file: &impl FileExt, size: u64) -> MovieSaid
     ensures { SaidIn 0 size result.said }
 {
-    match movie(fd, size) {
-        Found::In(s) => tracks_said(fd, s.from, s.end),
+    match movie(file, size) {
+        Found::In(s) => tracks_said(file, s.from, s.end),
         Found::Nothing => MovieSaid {
-            said: image_said(fd, size),
+            said: image_said(file, size),
             tracks: 0,
         },
         Found::Bad(t) => MovieSaid {
@@ -301,21 +302,22 @@ fn of_both(image: Said, m: MovieSaid) -> FileSaid
 }
 
 // What an open file says that is so many bytes long. A folder can be opened, but not read.
-pub fn file_said(fd: i32, size: u64) -> FileSaid
+pub fn file_said(file: &impl FileExt, size: u64) -> FileSaid
     ensures { FileIn size result }
 {
     let mut one = [0u8; 1];
-    if libc::pread(fd, &mut one, 0) < 0 {
-        return of_image(Said::Bad(Trouble::Unread));
+    let error = finding::read_at(file, 0, &mut one).error;
+    if error != 0 {
+        return of_image(Said::Bad(Trouble::Unread(error)));
     }
-    let first = finding::number_at(fd, 4, size);
-    let brand = finding::number_at(fd, 8, size);
+    let first = finding::number_at(file, 4, size);
+    let brand = finding::number_at(file, 8, size);
     match file_kind(first, brand) {
-        FileKind::Movie => of_movie(movie_said(fd, size)),
-        FileKind::Image => of_image(image_said(fd, size)),
+        FileKind::Movie => of_movie(movie_said(file, size)),
+        FileKind::Image => of_image(image_said(file, size)),
         FileKind::Sequence => {
-            let image = image_said(fd, size);
-            of_both(image, movie_said(fd, size))
+            let image = image_said(file, size);
+            of_both(image, movie_said(file, size))
         }
         FileKind::Stranger => of_image(Said::Bad(Trouble::Stranger)),
     }

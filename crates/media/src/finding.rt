@@ -1,9 +1,11 @@
 // Boxes found in an open file. A few thousand bytes are read at a time, from where the next box starts.
 ghost use Rattle.std.specs.Prelude.{◌≡◌, ◌≤◌, ◌+◌, ◌-◌, length};
-ghost use Rattle.io.specs.Counts.{IsPrefixLen};
+ghost use Rattle.media.specs.Counts.{IsPrefixLen};
 ghost use Rattle.media.specs.Inside.{Lying, Here, FoundIn};
 
 use boxes::{Header, Walked};
+use std::io;
+use std::os::unix::fs::FileExt;
 
 // A part of a file: from one position to before another.
 #[derive(Clone, Copy)]
@@ -15,8 +17,8 @@ pub struct Span {
 // Why a file was not understood. Positions are counted from its start.
 #[derive(Clone, Copy)]
 pub enum Trouble {
-    // nothing could be read
-    Unread,
+    // nothing could be read, for this reason in the system's numbers; 0 where the file ended before it should have
+    Unread(i32),
     // it begins as no such file does
     Stranger,
     // a box claims more than the bytes that are left
@@ -46,19 +48,49 @@ pub const META: u32 = 1835365473;
 // The largest offset that the system takes.
 const FURTHEST: u64 = 9223372036854775807;
 
+// How many bytes are looked at in one step.
+const WINDOW: usize = 4096;
+
+// What stands for a reason that has no number in the system.
+const OTHER: i32 = -1;
+
+// How many bytes were read, and why not any, in the system's numbers, or 0 where no call failed.
+#[derive(Clone, Copy)]
+pub struct Got {
+    pub count: usize,
+    pub error: i32,
+}
+
+// What a walk came to, and why nothing could be read for it, likewise.
+#[derive(Clone, Copy)]
+struct Seen {
+    walked: Walked,
+    error: i32,
+}
+
+// The reason of a call that failed, in the system's numbers.
+pub fn reason_of(e: io::Error) -> i32 {
+    e.raw_os_error().unwrap_or(OTHER)
+}
+
 // How many bytes were read, from a position on.
-pub fn read_at(fd: i32, at: u64, buffer: &mut [u8]) -> usize
-    ensures { IsPrefixLen result buffer.new }
+pub fn read_at(file: &impl FileExt, at: u64, buffer: &mut [u8]) -> Got
+    ensures { IsPrefixLen result.count buffer.new }
 {
     if FURTHEST < at {
-        return 0;
+        return Got { count: 0, error: 0 };
     }
-    let got = libc::pread(fd, buffer, at as i64);
-    io::count(got, buffer)
+    match file.read_at(buffer, at) {
+        Ok(count) => Got { count, error: 0 },
+        Err(e) => Got {
+            count: 0,
+            error: reason_of(e),
+        },
+    }
 }
 
 // Four bytes at a position as one number, if they lie before `end`.
-pub fn number_at(fd: i32, at: u64, end: u64) -> u64
+pub fn number_at(file: &impl FileExt, at: u64, end: u64) -> u64
     ensures { result ≤ 4294967296 }
 {
     if end < 4 {
@@ -68,7 +100,7 @@ pub fn number_at(fd: i32, at: u64, end: u64) -> u64
         return NONE;
     }
     let mut four = [0u8; 4];
-    let n = read_at(fd, at, &mut four);
+    let n = read_at(file, at, &mut four).count;
     if n < 4 {
         return NONE;
     }
@@ -76,12 +108,16 @@ pub fn number_at(fd: i32, at: u64, end: u64) -> u64
 }
 
 // What a walk over the bytes from a position comes to.
-fn look(fd: i32, from: u64, room: u64, kind: u32) -> Walked
-    ensures { Lying room result }
+fn look(file: &impl FileExt, from: u64, room: u64, kind: u32) -> Seen
+    ensures { Lying room result.walked }
 {
-    let mut window = io::buffer();
-    let n = read_at(fd, from, &mut window);
-    boxes::walk(&window[..n], room, kind)
+    let mut window = [0u8; WINDOW];
+    let got = read_at(file, from, &mut window);
+    let n = got.count;
+    Seen {
+        walked: boxes::walk(&window[..n], room, kind),
+        error: got.error,
+    }
 }
 
 // A header by where it stands in the file.
@@ -133,7 +169,7 @@ fn placed(seen: Walked, from: u64, end: u64, skip: u8) -> Found
             let least = h.length;
             Found::Bad(Trouble::Small { header, least })
         }
-        Walked::Further(_) => Found::Bad(Trouble::Unread),
+        Walked::Further(_) => Found::Bad(Trouble::Unread(0)),
         Walked::Cut(p) => {
             let at = from + p;
             let left = end - at;
@@ -144,17 +180,17 @@ fn placed(seen: Walked, from: u64, end: u64, skip: u8) -> Found
 }
 
 // The first box of a kind between two positions. What it holds is told without as many bytes in front as are skipped.
-pub fn find(fd: i32, from: u64, end: u64, kind: u32, skip: u8) -> Found
+pub fn find(file: &impl FileExt, from: u64, end: u64, kind: u32, skip: u8) -> Found
     ensures { FoundIn from end result }
 {
     let mut at = from;
     while at < end {
-        let seen = look(fd, at, end - at, kind);
-        let Walked::Further(on) = seen else {
-            return placed(seen, at, end, skip);
+        let seen = look(file, at, end - at, kind);
+        let Walked::Further(on) = seen.walked else {
+            return placed(seen.walked, at, end, skip);
         };
         if on == 0 {
-            return Found::Bad(Trouble::Unread);
+            return Found::Bad(Trouble::Unread(seen.error));
         }
         at += on;
     }
@@ -173,7 +209,7 @@ fn in_front(kind: u32) -> u8
 }
 
 // The box at the end of a path of kinds, each in the one before.
-pub fn descend(fd: i32, from: u64, end: u64, path: &[u32]) -> Found
+pub fn descend(file: &impl FileExt, from: u64, end: u64, path: &[u32]) -> Found
     requires { from ≤ end }
     ensures { Here from end result }
 {
@@ -181,7 +217,7 @@ pub fn descend(fd: i32, from: u64, end: u64, path: &[u32]) -> Found
     let mut stop = end;
     for i in 0..path.len() {
         let kind = path[i];
-        let found = find(fd, start, stop, kind, in_front(kind));
+        let found = find(file, start, stop, kind, in_front(kind));
         let Found::In(s) = found else {
             return found;
         };

@@ -7,6 +7,7 @@ ghost use Rattle.media.specs.Inside.{TroubleIn};
 use crate::finding;
 use crate::finding::{Found, Trouble};
 use nclx::{ColourLabel, LabelRead};
+use std::os::unix::fs::FileExt;
 
 // The codes of an older record.
 #[derive(Clone, Copy)]
@@ -197,31 +198,31 @@ pub fn across(a: Said, b: Said) -> Said
 }
 
 // What a record says that fills a buffer.
-fn read_said(fd: i32, from: u64, end: u64, bytes: &mut [u8]) -> Said
+fn read_said(file: &impl FileExt, from: u64, end: u64, bytes: &mut [u8]) -> Said
     ensures { SaidIn from end result }
 {
-    let n = finding::read_at(fd, from, bytes);
-    if n < bytes.len() {
-        return Said::Bad(Trouble::Unread);
+    let got = finding::read_at(file, from, bytes);
+    if got.count < bytes.len() {
+        return Said::Bad(Trouble::Unread(got.error));
     }
     record_said(bytes)
 }
 
 // What the record says that lies between two positions. Of one that is too long a byte more is read than of a whole one.
-fn record_at(fd: i32, from: u64, end: u64) -> Said
+fn record_at(file: &impl FileExt, from: u64, end: u64) -> Said
     requires { from ≤ end }
     ensures { SaidIn from end result }
 {
     let mut bytes = [0u8; 12];
     if end - from < 12 {
         let n = (end - from) as usize;
-        return read_said(fd, from, end, &mut bytes[..n]);
+        return read_said(file, from, end, &mut bytes[..n]);
     }
-    read_said(fd, from, end, &mut bytes)
+    read_said(file, from, end, &mut bytes)
 }
 
 // What was said, where the boxes end in four zero bytes, as those of a QuickTime file may; otherwise the trouble.
-fn ended(fd: i32, from: u64, end: u64, t: Trouble, said: Said) -> Said
+fn ended(file: &impl FileExt, from: u64, end: u64, t: Trouble, said: Said) -> Said
     requires { TroubleIn from end t × SaidIn from end said }
     ensures { SaidIn from end result }
 {
@@ -231,26 +232,26 @@ fn ended(fd: i32, from: u64, end: u64, t: Trouble, said: Said) -> Said
     if left != 4 {
         return Said::Bad(t);
     }
-    if finding::number_at(fd, at, end) != 0 {
+    if finding::number_at(file, at, end) != 0 {
         return Said::Bad(t);
     }
     said
 }
 
 // What the records between two positions say of one picture.
-pub fn records_said(fd: i32, from: u64, end: u64) -> Said
+pub fn records_said(file: &impl FileExt, from: u64, end: u64) -> Said
     ensures { SaidIn from end result }
 {
     let mut said = Said::Nothing;
     let mut at = from;
     while at < end {
-        match finding::find(fd, at, end, COLR, 0) {
+        match finding::find(file, at, end, COLR, 0) {
             Found::In(s) => {
-                said = beside(said, record_at(fd, s.from, s.end));
+                said = beside(said, record_at(file, s.from, s.end));
                 at = s.end;
             }
             Found::Nothing => return said,
-            Found::Bad(t) => return ended(fd, from, end, t, said),
+            Found::Bad(t) => return ended(file, from, end, t, said),
         }
     }
     said

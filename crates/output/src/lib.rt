@@ -1,14 +1,16 @@
 // Bytes and numbers, written to standard output.
-use libc::STDOUT_FILENO;
+#![tactic(auto)]
 
-pub fn say(w: &[u8]) {
-    io::write_all(STDOUT_FILENO, w);
+use std::io;
+
+pub fn say(rt: &impl Print, w: &[u8]) -> io::Result<()> {
+    rt.write_all(w)
 }
 
-pub fn number(n: u64) {
-    io::print_decimal(STDOUT_FILENO, n);
+pub fn number(rt: &impl Print, n: u64) -> io::Result<()> {
+    rt.print(n)
 }
 
-pub fn hex(n: u32) {
-    io::print_hex(STDOUT_FILENO, n as u64, 8);
+pub fn hex(rt: &impl Print, n: u32) -> io::Result<()> {
+    print!(rt; "{n:08x}")
 }

@@ -1,4 +1,6 @@
 // Requests: what can be asked of the box about a pixel, a sample or a code, and what can be answered. The box itself is not known here.
+#![tactic(auto)]
+
 pub mod form;
 
 use codes::label::{CodeKind, Label};

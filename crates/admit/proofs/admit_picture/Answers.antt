@@ -29,7 +29,7 @@ returns-in_default c =
 
 -- let in by them
 let_in : (c : In-Admitted) → by_sizes c.args.call c.args.s (lent c.before.before.before.before.before.before.before) c.args.other ≡ Admitted c.in-Admitted.served
-let_in c = sym (by_sizes_lem c.before) ∙ c.in-Admitted.is
+let_in c = sym (rw c.of-own.ensures at c.admit_sizes-admission.ensures) ∙ c.in-Admitted.is
 
 pub tops-tops-requires : goal.tops-tops-requires
 tops-tops-requires c = (sized_ready c.args.call c.args.s _ _ (let_in ((goal.at.tops-tops-requires c).In-Admitted))).three
@@ -37,7 +37,7 @@ tops-tops-requires c = (sized_ready c.args.call c.args.s _ _ (let_in ((goal.at.t
 pub bad_of_three-requires : goal.bad_of_three-requires
 bad_of_three-requires c =
     let f = (fits _ _ _ (sized c.args.call c.args.s _ _ (let_in ((goal.at.bad_of_three-requires c).In-Admitted))).1).0 in
-    (f.sized, f.long)
+    record { sized = f.sized; long = f.long }
 
 pub returns : goal.returns
 returns c =
