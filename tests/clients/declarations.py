@@ -1,4 +1,4 @@
-"""Compares what the header and the bindings declare with the exports as the box's source has them: names, types, order. Compares, too, the
+"""Compares what the header and the bindings declare with the exports as the archive's source has them: names, types, order. Compares, too, the
 words that they have for each refusal, and the numbers of the rules' page with them; and their numbers for editions.
 
 Standard input is the header after the preprocessor. The box's compiler knows nothing of these declarations, and a call with small
@@ -39,7 +39,7 @@ def before_name(piece):
 
 def of_source():
     found = {}
-    for path in glob.glob("crates/corkplover/src/*.rt"):
+    for path in glob.glob("crates/corkplover_c/src/*.rt"):
         with open(path) as source:
             for export in re.finditer(r'pub extern "C" fn (corkplover_\w+)\(([^)]*)\) -> (\w+)', source.read()):
                 found[export[1]] = parameters(export[2], after_colon, RATTLE) + " -> " + export[3]

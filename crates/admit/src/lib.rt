@@ -1,4 +1,6 @@
 // Who is let in: the first rule of a call that applies, or the setting in checked kinds.
+#![tactic(auto)]
+
 ghost use Rattle.std.specs.Prelude.{◌≡◌, [], ◌∷◌};
 ghost use Rattle.sample.specs.Depth.{ThreeDepths};
 ghost use Rattle.refusal.specs.Rules.{first};

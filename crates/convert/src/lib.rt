@@ -1,4 +1,6 @@
 // Pixels and rows of pixels, converted by a plan.
+#![tactic(auto)]
+
 pub mod back;
 mod each;
 mod line_rows;

@@ -1,5 +1,5 @@
 // The calls for C and for every language that can call C: numbered numbers and slices. A setting is one number, and so is an answer
-// (specs/Packing.antt).
+// (specs/Packing.antt). The crate corkplover_c exports them.
 ghost use Rattle.std.specs.Prelude.{◌≡◌};
 ghost use Rattle.codes.specs.declared.label.CodeKind.TheVariants.{Primaries, Transfer, Matrix};
 ghost use Rattle.setting.specs.declared.Way.TheVariants.{Forward, Reverse};
@@ -13,36 +13,31 @@ use crate::{labels, meters, packing, pixels};
 use codes::label::CodeKind;
 use meter::SampleKind;
 
-#[unsafe(no_mangle)]
-pub extern "C" fn corkplover_primaries_label(edition: u8, code: u8) -> u8
+pub fn corkplover_primaries_label(edition: u8, code: u8) -> u8
     ensures { result ≡ packed_label (label_answer Primaries edition code) }
 {
     packing::pack_label(labels::label(CodeKind::Primaries, edition, code))
 }
 
-#[unsafe(no_mangle)]
-pub extern "C" fn corkplover_transfer_label(edition: u8, code: u8) -> u8
+pub fn corkplover_transfer_label(edition: u8, code: u8) -> u8
     ensures { result ≡ packed_label (label_answer Transfer edition code) }
 {
     packing::pack_label(labels::label(CodeKind::Transfer, edition, code))
 }
 
-#[unsafe(no_mangle)]
-pub extern "C" fn corkplover_matrix_label(edition: u8, code: u8) -> u8
+pub fn corkplover_matrix_label(edition: u8, code: u8) -> u8
     ensures { result ≡ packed_label (label_answer Matrix edition code) }
 {
     packing::pack_label(labels::label(CodeKind::Matrix, edition, code))
 }
 
-#[unsafe(no_mangle)]
-pub extern "C" fn corkplover_forward_pixel(setting: u64, r: u16, g: u16, b: u16) -> u64
+pub fn corkplover_forward_pixel(setting: u64, r: u16, g: u16, b: u16) -> u64
     ensures { result ≡ packed_pixel (pixel_answer Forward (setting_in setting) (pixel_from r g b)) }
 {
     packing::pack_pixel(pixels::forward_pixel(setting_in(setting), pixel_from(r, g, b)))
 }
 
-#[unsafe(no_mangle)]
-pub extern "C" fn corkplover_reverse_pixel(setting: u64, y: u16, cb: u16, cr: u16) -> u64
+pub fn corkplover_reverse_pixel(setting: u64, y: u16, cb: u16, cr: u16) -> u64
     ensures { result ≡ packed_pixel (pixel_answer Reverse (setting_in setting) (pixel_from y cb cr)) }
 {
     packing::pack_pixel(pixels::reverse_pixel(setting_in(setting), pixel_from(y, cb, cr)))
@@ -57,29 +52,25 @@ fn leave_reading(kind: SampleKind, setting: u64, v: u16, level: &mut f32) -> u64
     packing::pack_reading(answer)
 }
 
-#[unsafe(no_mangle)]
-pub extern "C" fn corkplover_meter_y(setting: u64, v: u16, level: &mut f32) -> u64
+pub fn corkplover_meter_y(setting: u64, v: u16, level: &mut f32) -> u64
     ensures { ReadingAfter Y (setting_in setting) v result level.new }
 {
     leave_reading(SampleKind::Y, setting, v, level)
 }
 
-#[unsafe(no_mangle)]
-pub extern "C" fn corkplover_meter_cb(setting: u64, v: u16, level: &mut f32) -> u64
+pub fn corkplover_meter_cb(setting: u64, v: u16, level: &mut f32) -> u64
     ensures { ReadingAfter Cb (setting_in setting) v result level.new }
 {
     leave_reading(SampleKind::Cb, setting, v, level)
 }
 
-#[unsafe(no_mangle)]
-pub extern "C" fn corkplover_meter_cr(setting: u64, v: u16, level: &mut f32) -> u64
+pub fn corkplover_meter_cr(setting: u64, v: u16, level: &mut f32) -> u64
     ensures { ReadingAfter Cr (setting_in setting) v result level.new }
 {
     leave_reading(SampleKind::Cr, setting, v, level)
 }
 
-#[unsafe(no_mangle)]
-pub extern "C" fn corkplover_meter_pixel(
+pub fn corkplover_meter_pixel(
     setting: u64,
     y: u16,
     cb: u16,

@@ -1,4 +1,5 @@
 // The calls on whole frames for C and for every language that can call C. A slice is a pointer and then a length.
+// The crate corkplover_c exports them.
 ghost use Rattle.std.specs.Prelude.{◌≡◌};
 ghost use Rattle.setting.specs.declared.Way.TheVariants.{Forward, Reverse};
 ghost use Rattle.image_check.specs.Image.{image_answer};
@@ -34,8 +35,7 @@ fn leave_frame(
     packing::pack_frame(frame::convert_frame(way, s, size, a0, a1, a2, b0, b1, b2))
 }
 
-#[unsafe(no_mangle)]
-pub extern "C" fn corkplover_forward_frame(
+pub fn corkplover_forward_frame(
     setting: u64,
     width: usize,
     height: usize,
@@ -68,8 +68,7 @@ pub extern "C" fn corkplover_forward_frame(
     )
 }
 
-#[unsafe(no_mangle)]
-pub extern "C" fn corkplover_reverse_frame(
+pub fn corkplover_reverse_frame(
     setting: u64,
     width: usize,
     height: usize,
@@ -102,8 +101,7 @@ pub extern "C" fn corkplover_reverse_frame(
     )
 }
 
-#[unsafe(no_mangle)]
-pub extern "C" fn corkplover_image_check(
+pub fn corkplover_image_check(
     setting: u64,
     width: usize,
     height: usize,

@@ -1,4 +1,5 @@
 // The calls that judge a frame, for C and for every language that can call C. Of six planes none is written to; the count goes where the caller said.
+// The crate corkplover_c exports them.
 ghost use Rattle.setting.specs.declared.Way.TheVariants.{Forward, Reverse};
 ghost use Rattle.corkplover.specs.Packing.{setting_in, sizes};
 ghost use Rattle.corkplover.specs.After.{JudgementAfter};
@@ -34,8 +35,7 @@ fn leave_judgement(
     packing::pack_judgement(judgement)
 }
 
-#[unsafe(no_mangle)]
-pub extern "C" fn corkplover_judge_forward(
+pub fn corkplover_judge_forward(
     setting: u64,
     width: usize,
     height: usize,
@@ -70,8 +70,7 @@ pub extern "C" fn corkplover_judge_forward(
     )
 }
 
-#[unsafe(no_mangle)]
-pub extern "C" fn corkplover_judge_reverse(
+pub fn corkplover_judge_reverse(
     setting: u64,
     width: usize,
     height: usize,

@@ -1,4 +1,4 @@
-// The calls on colour records, for C and for every language that can call C.
+// The calls on colour records, for C and for every language that can call C. The crate corkplover_c exports them.
 ghost use Rattle.std.specs.Prelude.{◌≡◌};
 ghost use Rattle.nclx.specs.Record.{label_read};
 ghost use Rattle.nclx.specs.Choice.{choice};
@@ -7,15 +7,13 @@ ghost use Rattle.corkplover.specs.RecordPacking.{packed_read, packed_choice, lab
 use crate::record_packing::label_from;
 use crate::{record_packing, records};
 
-#[unsafe(no_mangle)]
-pub extern "C" fn corkplover_read_label(record: &[u8]) -> u64
+pub fn corkplover_read_label(record: &[u8]) -> u64
     ensures { result ≡ packed_read (label_read «record».now) }
 {
     record_packing::pack_read(records::read_label(record))
 }
 
-#[unsafe(no_mangle)]
-pub extern "C" fn corkplover_write_label(
+pub fn corkplover_write_label(
     primaries: u8,
     transfer: u8,
     matrix: u8,
@@ -28,8 +26,7 @@ pub extern "C" fn corkplover_write_label(
     record_packing::pack_check(nclx::writing::write_into(label, out))
 }
 
-#[unsafe(no_mangle)]
-pub extern "C" fn corkplover_pick_label(container: &[u8], stream: &[u8]) -> u64
+pub fn corkplover_pick_label(container: &[u8], stream: &[u8]) -> u64
     ensures { result ≡ packed_choice (choice container.now stream.now) }
 {
     record_packing::pack_choice(records::pick_label(container, stream))

@@ -1,7 +1,7 @@
 -- Numbers that stand for a run give the samples of its line: the factor is a little too large, so that the sum is at or past the exact number
 -- on one side of the start and short of it on the other, by less than the exact number can be from the next whole one.
 use mathlib.Core.Path.{◌≡◌, ap, ◌∙◌}
-use mathlib.Core.Logic.{◌⊎◌, ⊎_elim}
+use mathlib.Core.Logic.{⊎_elim}
 use Prim.Native.Nat.{ℕ, ◌+◌, ◌*◌, ◌-◌, ◌/◌, ◌^◌, ◌≤◌, ◌<◌}
 use native.Mathlib.Nat.{mul-le-mul_left, mul-le-mul, div-div-eq-div-mul, mul-pos}
 use native.Mathlib.Omega.{arith}

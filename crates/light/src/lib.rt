@@ -1,5 +1,7 @@
 // The three samples of a pixel from its light. Y runs evenly with it, and Cb and Cr with how far B and R are from it: that sum is taken once for a
 // pixel, in whole numbers, and each sample costs one multiplication more and no division.
+#![tactic(auto)]
+
 mod numbers;
 pub mod prepare;
 pub mod scaled;

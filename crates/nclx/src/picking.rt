@@ -15,6 +15,7 @@ pub enum Choice {
     Refused(Refusal),
 }
 
+#[tactic(auto, unfolding(crate::specs::Choice::choice))]
 pub fn pick(container: &[u8], stream: &[u8]) -> Choice
     ensures { result ≡ choice container.now stream.now }
 {

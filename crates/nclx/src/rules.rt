@@ -87,6 +87,7 @@ fn refused(number: u8) -> Check
 }
 
 // Rules 20 to 23.
+#[tactic(auto, unfolding(crate::specs::Record::wrong_length, refusal::specs::Rules::first))]
 pub fn check_record(bytes: &[u8]) -> Check
     ensures { result ≡ first (record_rules bytes.now) }
 {

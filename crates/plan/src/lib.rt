@@ -1,4 +1,6 @@
 // What a served setting does, decided once: one value with all that a loop over pixels needs.
+#![tactic(auto)]
+
 ghost use Rattle.std.specs.Prelude.{◌≡◌};
 ghost use Rattle.levels.specs.Conversion.{MatrixFits, LevelDepths};
 ghost use Rattle.setting.specs.Ready.{Ready};

@@ -1,5 +1,7 @@
 // The three samples of a pixel from its light, where each is a whole number over another: both sides full, at one depth. The factor alone then makes
 // a sample exact, with whole parts added or taken away, so that a pixel takes fewer steps than by `light`.
+#![tactic(auto)]
+
 mod numbers;
 pub mod prepare;
 

@@ -10,24 +10,24 @@ use Rattle.meter.proofs.Exact.{in_float_lem, numerator_size}
 use Rattle.meter.proofs.level.Goals as goal
 use Rattle.meter.proofs.level.Goals.{Start}
 
-v-is : (s : Start) → to_z w32 s.args.v ≡ pos s.args.v
-v-is s = reads_back w32 {z = pos s.args.v} (search parts) (omega arith) (omega arith)
+v_is : (s : Start) → to_z w32 s.args.v ≡ pos s.args.v
+v_is s = reads_back w32 {z = pos s.args.v} (search parts) (omega arith) (omega arith)
 
-plus-is : (s : Start) → to_z w32 s.args.s.plus ≡ pos s.args.s.plus
-plus-is s = reads_back w32 {z = pos s.args.s.plus} (search parts) (omega arith) (omega arith)
+plus_is : (s : Start) → to_z w32 s.args.s.plus ≡ pos s.args.s.plus
+plus_is s = reads_back w32 {z = pos s.args.s.plus} (search parts) (omega arith) (omega arith)
 
-above-is : (s : Start) → to_z w32 (of_z w32 (pos s.args.v -ℤ pos s.args.s.plus)) ≡ pos s.args.v -ℤ pos s.args.s.plus
-above-is s = reads_back w32 (search parts) (omega arith) (omega arith)
+above_is : (s : Start) → to_z w32 (of_z w32 (pos s.args.v -ℤ pos s.args.s.plus)) ≡ pos s.args.v -ℤ pos s.args.s.plus
+above_is s = reads_back w32 (search parts) (omega arith) (omega arith)
 
 pub overflow_sub-above : goal.overflow_sub-above
-overflow_sub-above c = simp (v-is ((goal.at.overflow_sub-above c).Start), plus-is ((goal.at.overflow_sub-above c).Start)) (signed_fits (search parts) (omega arith) (omega arith))
+overflow_sub-above c = simp (v_is ((goal.at.overflow_sub-above c).Start), plus_is ((goal.at.overflow_sub-above c).Start)) (signed_fits (search parts) (omega arith) (omega arith))
 
 pub int_to_float-numerator : goal.int_to_float-numerator
 int_to_float-numerator c =
-    simp (v-is ((goal.at.int_to_float-numerator c).Start), plus-is ((goal.at.int_to_float-numerator c).Start), above-is ((goal.at.int_to_float-numerator c).Start)) (in_float_lem _ (numerator_size c.args.v c.args.s (omega arith) c.requires))
+    simp (v_is ((goal.at.int_to_float-numerator c).Start), plus_is ((goal.at.int_to_float-numerator c).Start), above_is ((goal.at.int_to_float-numerator c).Start)) (in_float_lem _ (numerator_size c.args.v c.args.s (omega arith) c.requires))
 
 pub int_to_float-denominator : goal.int_to_float-denominator
 int_to_float-denominator c = in_float_lem (pos c.args.s.times) (omega arith)
 
 pub returns : goal.returns
-returns c = simp (v-is ((goal.at.returns c).Start), plus-is ((goal.at.returns c).Start), above-is ((goal.at.returns c).Start))
+returns c = simp (v_is ((goal.at.returns c).Start), plus_is ((goal.at.returns c).Start), above_is ((goal.at.returns c).Start))

@@ -12,16 +12,16 @@ use Rattle.ycgco.proofs.lossy_forward.Goals as goal
 use Rattle.ycgco.proofs.lossy_forward.Goals.{After-largest-top}
 
 -- the middle of the chroma plane is not above its largest sample
-middle-in : (c : After-largest-top) → c.middle-h.result ≤ c.largest-top.result
-middle-in c =
+middle_in : (c : After-largest-top) → c.middle-h.result ≤ c.largest-top.result
+middle_in c =
     let e = doubles c.args.d.chroma.0 c.requires.chroma_some in
     omega (arith, c.middle-h.ensures, c.largest-top.ensures, e)
 
 pub round_clip-p1-requires : goal.round_clip-p1-requires
-round_clip-p1-requires c = let e = middle-in ((goal.at.round_clip-p1-requires c).After-largest-top) in omega arith
+round_clip-p1-requires c = let e = middle_in ((goal.at.round_clip-p1-requires c).After-largest-top) in omega arith
 
 pub round_clip-p2-requires : goal.round_clip-p2-requires
-round_clip-p2-requires c = let e = middle-in ((goal.at.round_clip-p2-requires c).After-largest-top) in omega arith
+round_clip-p2-requires c = let e = middle_in ((goal.at.round_clip-p2-requires c).After-largest-top) in omega arith
 
 pub returns : goal.returns
 unfolding lossy_forward

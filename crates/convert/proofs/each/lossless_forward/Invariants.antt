@@ -1,0 +1,14 @@
+-- `convert::each::lossless_forward` meets its contract: with each turn the rows are written one pixel further.
+use mathlib.Core.Path.{◌≡◌, refl, sym, subst}
+use Prim.Native.Nat.{◌-◌}
+use lib.ListN.{length}
+use Rattle.sample.specs.Depth.{InsideRGB}
+use Rattle.ycgco.specs.YCgCo.{lossless_forward}
+use Rattle.convert.proofs.RowLaws.{Written, written_none, written_more, written_all}
+use Rattle.convert.proofs.each.lossless_forward.Given as goal
+
+abbrev pub invariant-loop-i : goal.invariant-loop-i
+invariant-loop-i l = (l.i-end ≡ length l.a0) × Written (lossless_forward l.d) l.a0 l.a1 l.a2 l.b0 l.b1 l.b2 l.i
+
+abbrev pub decreases-loop-i : goal.decreases-loop-i
+decreases-loop-i l = l.i-end - l.i
