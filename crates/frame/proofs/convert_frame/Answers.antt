@@ -4,8 +4,6 @@ use mathlib.Core.Path.{◌≡◌, sym, ap, ◌∙◌}
 use lib.ListN.{length}
 use Rattle.setting.specs.declared.Call.TheVariants.{Convert}
 use Rattle.tables.specs.Table.{zeros}
-use Rattle.planes.specs.Picture.{Picture}
-use Rattle.planes.specs.declared.size.Layout.{Layout}
 use Rattle.admit.specs.Rules.{by_sizes}
 use Rattle.admit.proofs.LetIn.{FrameSized, paintable}
 use Rattle.rows.specs.Paint.{input_picture, output_layout}

@@ -2,18 +2,14 @@
 -- tops; in the end the rest is zeros.
 use mathlib.Core.Path.{sym}
 use mathlib.Core.Bool.{true≢false}
-use Prim.Native.Nat.{◌-◌}
 use native.Mathlib.Omega.{arith}
-use borrow.Author.Tests.{not-true, not-false}
 use lib.ListN.{length}
 use Rattle.scan.specs.First.{NotAbove}
-use Rattle.planes.specs.Picture.{picture}
-use Rattle.planes.specs.Sizes.{layout}
 use Rattle.scan.proofs.Searches.{yes, no}
 use Rattle.row_plan.specs.RowPlan.{row_planned}
 use Rattle.rows.specs.Paint.{input_picture, output_layout}
-use Rattle.rows.proofs.RowLaws.{Seen, seen_none, seen_all}
-use Rattle.frame.proofs.PaintLaws.{Painting, painting_none, seen_more, Turn, output_long, row_room, row_of_every, painting_more, rest_long, painting_end}
+use Rattle.rows.proofs.RowLaws.{seen_none, seen_all}
+use Rattle.frame.proofs.PaintLaws.{painting_none, seen_more, Turn, output_long, row_room, row_of_every, painting_more, rest_long, painting_end}
 use Rattle.frame.proofs.picture.paint_rows.Goals as goal
 use Rattle.frame.proofs.picture.paint_rows.Goals.{After-row_start-to}
 

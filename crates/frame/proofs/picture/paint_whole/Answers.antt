@@ -3,12 +3,10 @@ use mathlib.Core.Path.{refl, sym, ap}
 use mathlib.Core.Bool.{true≢false}
 use Prim.Native.Nat.{◌+◌}
 use native.Mathlib.Omega.{arith}
-use borrow.Author.Tests.{not-true, not-false}
 use lib.ListN.{length}
 use Rattle.scan.specs.First.{NotAbove}
-use Rattle.planes.specs.Picture.{Picture, picture}
+use Rattle.planes.specs.Picture.{picture}
 use Rattle.planes.specs.Sizes.{layout}
-use Rattle.planes.specs.declared.size.Layout.{Layout}
 use Rattle.scan.proofs.Searches.{yes, no}
 use Rattle.row_plan.specs.RowPlan.{row_planned}
 use Rattle.frame.proofs.PaintLaws.{Whole, whole_room, whole_of_every, every_of_whole, painting_whole, rest_long, painting_end}
