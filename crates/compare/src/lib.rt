@@ -1,4 +1,6 @@
 // Two rows of pixels, compared: in how many they differ, and where first.
+#![tactic(auto)]
+
 ghost use Rattle.std.specs.Prelude.{◌≡◌, ◌+◌, ◌≤◌, length, take};
 ghost use Rattle.sample.specs.Flag.{one_if};
 ghost use Rattle.planes.specs.Sizes.{Long};

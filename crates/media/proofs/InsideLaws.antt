@@ -30,7 +30,7 @@ module _ (from end from' end' : ℕ) (a : from ≤ from') (b : end' ≤ end) whe
   between_in at p = record { after = omega arith; before = omega arith }
 
   pub trouble_in : (t : Trouble) → TroubleIn from' end' t → TroubleIn from end t
-  trouble_in trouble.Unread p = omega arith
+  trouble_in (trouble.Unread error) p = omega arith
   trouble_in trouble.Stranger p = omega arith
   trouble_in (trouble.Beyond h left) p = between_in h.at p
   trouble_in (trouble.Small h least) p = between_in h.at p

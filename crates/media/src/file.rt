@@ -80,6 +80,7 @@ const PICT: u64 = 1885954932;
 const ENTRY_BYTES: u8 = 78;
 
 // Whether a file without a first box of its kind may begin so, as QuickTime files do.
+#[tactic(auto, unfolding(crate::specs::Kinds::opens_movie))]
 fn opens_movie(first: u64) -> bool
     ensures { result ≡ opens_movie first }
 {
@@ -99,6 +100,7 @@ fn opens_movie(first: u64) -> bool
 }
 
 // How a file of this brand is read.
+#[tactic(auto, unfolding(crate::specs::Kinds::branded))]
 fn branded(brand: u64) -> FileKind
     ensures { result ≡ branded brand }
 {
@@ -118,6 +120,7 @@ fn branded(brand: u64) -> FileKind
 }
 
 // How a file is read, by the kind of its first box and the brand in it.
+#[tactic(auto, unfolding(crate::specs::Kinds::file_kind))]
 fn file_kind(first: u64, brand: u64) -> FileKind
     ensures { result ≡ file_kind first brand }
 {
@@ -131,6 +134,7 @@ fn file_kind(first: u64, brand: u64) -> FileKind
 }
 
 // Whether a track of this medium is a picture.
+#[tactic(auto, unfolding(crate::specs::Kinds::is_picture))]
 fn is_picture(handler: u64) -> bool
     ensures { result ≡ is_picture handler }
 {

@@ -76,6 +76,7 @@ fn older_of(bytes: &[u8]) -> Codes
 }
 
 // What a record says by the rules on an 'nclx' record.
+#[tactic(auto, unfolding(crate::specs::Saying::nclx_said))]
 fn nclx_said(bytes: &[u8]) -> Said
     ensures { result ≡ nclx_said bytes.now }
 {
@@ -86,6 +87,7 @@ fn nclx_said(bytes: &[u8]) -> Said
 }
 
 // What a record says that begins with 'nclc'.
+#[tactic(auto, unfolding(crate::specs::Saying::older_said))]
 fn older_said(bytes: &[u8]) -> Said
     ensures { result ≡ older_said bytes.now }
 {
@@ -96,6 +98,7 @@ fn older_said(bytes: &[u8]) -> Said
 }
 
 // What a record says.
+#[tactic(auto, unfolding(crate::specs::Saying::record_said))]
 pub fn record_said(bytes: &[u8]) -> Said
     ensures { result ≡ record_said bytes.now }
 {
@@ -136,6 +139,7 @@ fn label_key(l: ColourLabel) -> u64
     ((primaries * 256 + transfer) * 256 + matrix) * 2 + range
 }
 
+#[tactic(auto, unfolding(crate::specs::Saying::key_of))]
 fn key_of(said: Said) -> u64
     ensures { result ≡ key_of said }
 {
@@ -152,6 +156,7 @@ fn key_of(said: Said) -> u64
 }
 
 // What two records of one picture come to: the one that counts more, and of two that count the same none.
+#[tactic(auto, unfolding(crate::specs::Saying::beside))]
 pub fn beside(a: Said, b: Said) -> Said
     ensures { result ≡ beside a b }
 {
@@ -172,6 +177,7 @@ pub fn beside(a: Said, b: Said) -> Said
 }
 
 // What two pictures of one file come to: they have to say the same, and trouble with one is trouble with both. What is no picture says nothing.
+#[tactic(auto, unfolding(crate::specs::Saying::across))]
 pub fn across(a: Said, b: Said) -> Said
     ensures { result ≡ across a b }
 {

@@ -1,4 +1,6 @@
 // A plan for many pixels: what takes some time to prepare and makes each pixel cheap. It does what the plan of the conversion does.
+#![tactic(auto)]
+
 ghost use Rattle.std.specs.Prelude.{◌≡◌, ◌≤◌};
 ghost use Rattle.levels.specs.Conversion.{most_sample};
 ghost use Rattle.levels.specs.Room.{AllReady};

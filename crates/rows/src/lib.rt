@@ -1,4 +1,6 @@
 // A row of pixels, converted by a plan for many. The plan is looked at once, and each kind of numbers has a loop of its own.
+#![tactic(auto)]
+
 mod light_rows;
 pub mod paint;
 mod word_rows;

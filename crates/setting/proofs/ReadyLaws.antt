@@ -1,6 +1,6 @@
 -- A setting that no rule refuses is ready: rules 6 and 7 say so of its depths, and the table of matrices of its formulas.
 use mathlib.Core.Path.{◌≡◌, refl, sym, subst}
-use mathlib.Core.Bool.{Bool, true, false, true≢false}
+use mathlib.Core.Bool.{Bool, true, true≢false}
 use Prim.Native.Nat.{ℕ, ◌+◌, ◌≤◌, ◌<◌}
 use native.Mathlib.Omega.{arith}
 use borrow.Author.Rules.{rules}
@@ -34,7 +34,6 @@ use Rattle.setting.specs.Ready.{Agreed, Ready, Keeping, Keeps}
 use Rattle.setting.specs.declared.Call.{Call}
 use Rattle.setting.specs.declared.Call.TheVariants as call
 use Rattle.setting.specs.declared.Setting.{Setting}
-use Rattle.setting.specs.declared.admission.Served.{Served}
 
 -- what the table of matrices gives each kind of formulas
 abbrev Bound : Bond → Type 0

@@ -5,7 +5,10 @@ use Rattle.plan.specs.Source.{same_pixel}
 use Rattle.convert.proofs.comes_back.Goals as goal
 
 pub pixel-again-requires : goal.pixel-again-requires
-pixel-again-requires c = record { roomy = c.requires.roomy_2; takes = subst (Takes c.args.forth) (sym c.pixel-source.ensures) c.requires.takes_2 }
+pixel-again-requires c = record {
+  roomy = c.requires.roomy_2;
+  takes = subst (Takes c.args.forth) (sym c.pixel-source.ensures) c.requires.takes_2;
+}
 
 pub returns : goal.returns
 returns c =

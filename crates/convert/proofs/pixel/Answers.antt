@@ -11,14 +11,20 @@ lossy_reverse-requires c = subst Roomy c.in-LossyReverse.is c.requires.roomy
 
 pub lossless_forward-requires : goal.lossless_forward-requires
 lossless_forward-requires c =
-    record { lossless_depths = subst Roomy c.in-LosslessForward.is c.requires.roomy; inside_rgb = subst (λ x. Takes x c.args.p) c.in-LosslessForward.is c.requires.takes }
+    record {
+      lossless_depths = subst Roomy c.in-LosslessForward.is c.requires.roomy;
+      inside_rgb = subst (λ x. Takes x c.args.p) c.in-LosslessForward.is c.requires.takes;
+    }
 
 pub lossless_reverse-requires : goal.lossless_reverse-requires
 lossless_reverse-requires c = subst Roomy c.in-LosslessReverse.is c.requires.roomy
 
 pub pixel_of-requires : goal.pixel_of-requires
 pixel_of-requires c =
-    record { all_ready = subst Roomy c.in-Lines.is c.requires.roomy; samples_fit = subst (λ x. Takes x c.args.p) c.in-Lines.is c.requires.takes }
+    record {
+      all_ready = subst Roomy c.in-Lines.is c.requires.roomy;
+      samples_fit = subst (λ x. Takes x c.args.p) c.in-Lines.is c.requires.takes;
+    }
 
 pub returns-in-PlacesForward : goal.returns-in-PlacesForward
 returns-in-PlacesForward c = rw c.in-PlacesForward.is

@@ -23,7 +23,11 @@ module _ (c : After-writer_of-colour) where
 pub lines_of-requires : goal.lines_of-requires
 lines_of-requires c =
     let e = c.requires.equations_fit in
-    let h = c.requires.level_depths in record { line_fits = fits_as (from_is ((goal.at.lines_of-requires c).After-writer_of-colour)) (light_is ((goal.at.lines_of-requires c).After-writer_of-colour)) (into-luma c.args.s h _ e.first); line_fits_2 = fits_as (from_is ((goal.at.lines_of-requires c).After-writer_of-colour)) (colour_is ((goal.at.lines_of-requires c).After-writer_of-colour)) (into-chroma c.args.s h _ e.second); line_fits_3 = fits_as (from_is ((goal.at.lines_of-requires c).After-writer_of-colour)) (colour_is ((goal.at.lines_of-requires c).After-writer_of-colour)) (into-chroma c.args.s h _ e.third) }
+    let h = c.requires.level_depths in record {
+      line_fits = fits_as (from_is ((goal.at.lines_of-requires c).After-writer_of-colour)) (light_is ((goal.at.lines_of-requires c).After-writer_of-colour)) (into-luma c.args.s h _ e.first);
+      line_fits_2 = fits_as (from_is ((goal.at.lines_of-requires c).After-writer_of-colour)) (colour_is ((goal.at.lines_of-requires c).After-writer_of-colour)) (into-chroma c.args.s h _ e.second);
+      line_fits_3 = fits_as (from_is ((goal.at.lines_of-requires c).After-writer_of-colour)) (colour_is ((goal.at.lines_of-requires c).After-writer_of-colour)) (into-chroma c.args.s h _ e.third);
+    }
 
 pub returns : goal.returns
 unfolding forward_lines

@@ -19,12 +19,19 @@ module _ (c : After-writer_of-to) where
 
 pub readers_of_ycc-from-requires : goal.readers_of_ycc-from-requires
 readers_of_ycc-from-requires c =
-    record { scale_fits = rw c.luma_scale-of_luma.ensures (luma_fits c.args.s c.requires.level_depths); scale_fits_2 = rw c.chroma_scale-of_chroma.ensures (chroma_fits c.args.s c.requires.level_depths) }
+    record {
+      scale_fits = rw c.luma_scale-of_luma.ensures (luma_fits c.args.s c.requires.level_depths);
+      scale_fits_2 = rw c.chroma_scale-of_chroma.ensures (chroma_fits c.args.s c.requires.level_depths);
+    }
 
 pub lines_of-requires : goal.lines_of-requires
 lines_of-requires c =
     let e = c.requires.equations_fit in
-    let h = c.requires.level_depths in record { line_fits = fits_as (from_is ((goal.at.lines_of-requires c).After-writer_of-to)) (to_is ((goal.at.lines_of-requires c).After-writer_of-to)) (into-rgb c.args.s h _ e.first); line_fits_2 = fits_as (from_is ((goal.at.lines_of-requires c).After-writer_of-to)) (to_is ((goal.at.lines_of-requires c).After-writer_of-to)) (into-rgb c.args.s h _ e.second); line_fits_3 = fits_as (from_is ((goal.at.lines_of-requires c).After-writer_of-to)) (to_is ((goal.at.lines_of-requires c).After-writer_of-to)) (into-rgb c.args.s h _ e.third) }
+    let h = c.requires.level_depths in record {
+      line_fits = fits_as (from_is ((goal.at.lines_of-requires c).After-writer_of-to)) (to_is ((goal.at.lines_of-requires c).After-writer_of-to)) (into-rgb c.args.s h _ e.first);
+      line_fits_2 = fits_as (from_is ((goal.at.lines_of-requires c).After-writer_of-to)) (to_is ((goal.at.lines_of-requires c).After-writer_of-to)) (into-rgb c.args.s h _ e.second);
+      line_fits_3 = fits_as (from_is ((goal.at.lines_of-requires c).After-writer_of-to)) (to_is ((goal.at.lines_of-requires c).After-writer_of-to)) (into-rgb c.args.s h _ e.third);
+    }
 
 pub returns : goal.returns
 unfolding reverse_lines

@@ -10,7 +10,13 @@ pub returns-in-Reverse : goal.returns-in-Reverse
 returns-in-Reverse c = rw c.in-Reverse.is (ap Lines c.reverse_lines.ensures)
 
 pub forward_lines-requires : goal.forward_lines-requires
-forward_lines-requires c = record { equations_fit = c.requires.matrix_fits.forward; level_depths = c.requires.level_depths }
+forward_lines-requires c = record {
+  equations_fit = c.requires.matrix_fits.forward;
+  level_depths = c.requires.level_depths;
+}
 
 pub reverse_lines-requires : goal.reverse_lines-requires
-reverse_lines-requires c = record { equations_fit = c.requires.matrix_fits.reverse; level_depths = c.requires.level_depths }
+reverse_lines-requires c = record {
+  equations_fit = c.requires.matrix_fits.reverse;
+  level_depths = c.requires.level_depths;
+}

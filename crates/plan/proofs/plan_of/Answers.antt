@@ -6,7 +6,10 @@ use Rattle.plan.proofs.plan_of.Goals as goal
 
 -- a level matrix of a setting that is not refused fits, and so do its depths
 pub plan_levels-requires : goal.plan_levels-requires
-plan_levels-requires c = let k = subst (λ f. Agreed f c.args.s) c.in-Levels.is c.requires.agreed in record { matrix_fits = k.0; level_depths = k.1 }
+plan_levels-requires c = let k = subst (λ f. Agreed f c.args.s) c.in-Levels.is c.requires.agreed in record {
+  matrix_fits = k.0;
+  level_depths = k.1;
+}
 
 pub returns-in-ChangePlaces : goal.returns-in-ChangePlaces
 unfolding plan_of

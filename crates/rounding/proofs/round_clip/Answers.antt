@@ -12,7 +12,13 @@ use Rattle.rounding.proofs.round_clip.Goals.{Start}
 lifted : (s : Start) → let x = s.args in Lifted x.p x.q x.den 1 (2 * x.den) (2 * (x.p + past_samples * x.den) + x.den - 2 * x.q) past_samples
 lifted s =
     let fits = s.requires in
-    record { g_some = omega arith; e_some = omega arith; m_some = omega arith; denominator = omega arith; numerator = omega arith }
+    record {
+      g_some = omega arith;
+      e_some = omega arith;
+      m_some = omega arith;
+      denominator = omega arith;
+      numerator = omega arith;
+    }
 
 pub returns : goal.returns
 returns c =

@@ -1,11 +1,8 @@
 -- `convert::back::lossless` meets its contract: with each turn the bits are gathered from one pixel more.
-use mathlib.Core.Path.{◌≡◌, refl}
-use Prim.Native.Nat.{◌≤◌, ◌-◌}
+use mathlib.Core.Path.{refl}
 use native.Mathlib.Omega.{arith}
 use borrow.Author.Tests.{eqb-true}
-use lib.ListN.{length}
-use Rattle.ycgco.specs.YCgCo.{lossless_forward, lossless_reverse}
-use Rattle.convert.proofs.BackLaws.{BackUntil, back_none, back_more}
+use Rattle.convert.proofs.BackLaws.{back_none, back_more}
 use Rattle.convert.proofs.back.lossless.Goals as goal
 
 pub loop-i-init : goal.loop-i-init
@@ -14,7 +11,10 @@ loop-i-init c = (omega arith, (refl, back_none))
 pub lossless_forward-again-requires : goal.lossless_forward-again-requires
 lossless_forward-again-requires c =
     let inside = c.requires.every_of c.loop-i.i (omega arith) in
-    record { lossless_depths = c.requires.lossless_depths.1; inside_rgb = rw (c.lossless_reverse-source.ensures, c.pixel_in-p.ensures) inside }
+    record {
+      lossless_depths = c.requires.lossless_depths.1;
+      inside_rgb = rw (c.lossless_reverse-source.ensures, c.pixel_in-p.ensures) inside;
+    }
 
 pub loop-i-preserved : goal.loop-i-preserved
 loop-i-preserved c =

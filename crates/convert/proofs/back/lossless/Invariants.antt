@@ -1,10 +1,9 @@
 -- `convert::back::lossless` meets its contract: with each turn the bits are gathered from one pixel more.
-use mathlib.Core.Path.{◌≡◌, refl}
+use mathlib.Core.Path.{◌≡◌}
 use Prim.Native.Nat.{◌≤◌, ◌-◌}
-use borrow.Author.Tests.{eqb-true}
 use lib.ListN.{length}
 use Rattle.ycgco.specs.YCgCo.{lossless_forward, lossless_reverse}
-use Rattle.convert.proofs.BackLaws.{BackUntil, back_none, back_more}
+use Rattle.convert.proofs.BackLaws.{BackUntil}
 use Rattle.convert.proofs.back.lossless.Given as goal
 
 abbrev pub invariant-loop-i : goal.invariant-loop-i

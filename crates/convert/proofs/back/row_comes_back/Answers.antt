@@ -15,7 +15,12 @@ returns-in-PlacesForward c e i h =
 pub lossless-requires : goal.lossless-requires
 lossless-requires c =
     let e = c.in-LosslessReverse.is in
-    let g = c.in-LosslessForward.is in record { lossless_depths = (subst Roomy e c.requires.roomy.0, subst Roomy g c.requires.roomy.1); a1_len = c.requires.a1_len; a2_len = c.requires.a2_len; every_of = λ i h. rw (e, g) at (c.requires.every_of i h) }
+    let g = c.in-LosslessForward.is in record {
+      lossless_depths = (subst Roomy e c.requires.roomy.0, subst Roomy g c.requires.roomy.1);
+      a1_len = c.requires.a1_len;
+      a2_len = c.requires.a2_len;
+      every_of = λ i h. rw (e, g) at (c.requires.every_of i h);
+    }
 
 pub returns-in-LosslessForward : goal.returns-in-LosslessForward
 returns-in-LosslessForward c e i h =

@@ -1,9 +1,7 @@
 -- `convert::each::copy` meets its contract: after i turns the first i elements are those of the row that is read.
-use mathlib.Core.Path.{◌≡◌, refl, sym, ◌∙◌}
-use Prim.Native.Nat.{◌≤◌, ◌-◌}
+use mathlib.Core.Path.{refl, sym, ◌∙◌}
 use native.Mathlib.Omega.{arith}
-use lib.ListN.{length, get_or}
-use Rattle.tables.proofs.Tables.{Filled, filled_none, filled_more, filled_all}
+use Rattle.tables.proofs.Tables.{filled_none, filled_more, filled_all}
 use Rattle.convert.proofs.RowLaws.{row_itself}
 use Rattle.convert.proofs.each.copy.Goals as goal
 

@@ -1,9 +1,8 @@
 -- `convert::each::copy` meets its contract: after i turns the first i elements are those of the row that is read.
-use mathlib.Core.Path.{◌≡◌, refl, sym, ◌∙◌}
+use mathlib.Core.Path.{◌≡◌}
 use Prim.Native.Nat.{◌≤◌, ◌-◌}
 use lib.ListN.{length, get_or}
-use Rattle.tables.proofs.Tables.{Filled, filled_none, filled_more, filled_all}
-use Rattle.convert.proofs.RowLaws.{row_itself}
+use Rattle.tables.proofs.Tables.{Filled}
 use Rattle.convert.proofs.each.copy.Given as goal
 
 abbrev pub invariant-loop-i : goal.invariant-loop-i

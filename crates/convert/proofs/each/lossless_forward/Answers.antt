@@ -1,11 +1,8 @@
 -- `convert::each::lossless_forward` meets its contract: with each turn the rows are written one pixel further.
-use mathlib.Core.Path.{◌≡◌, refl, sym, subst}
-use Prim.Native.Nat.{◌-◌}
+use mathlib.Core.Path.{refl, sym, subst}
 use native.Mathlib.Omega.{arith}
-use lib.ListN.{length}
 use Rattle.sample.specs.Depth.{InsideRGB}
-use Rattle.ycgco.specs.YCgCo.{lossless_forward}
-use Rattle.convert.proofs.RowLaws.{Written, written_none, written_more, written_all}
+use Rattle.convert.proofs.RowLaws.{written_none, written_more, written_all}
 use Rattle.convert.proofs.each.lossless_forward.Goals as goal
 use Rattle.convert.proofs.each.lossless_forward.Goals.{In-loop-i}
 
@@ -15,7 +12,10 @@ loop-i-init c = (refl, written_none c.requires.one_width)
 pub lossless_forward-q-requires : goal.lossless_forward-q-requires
 lossless_forward-q-requires c =
     let inside = c.requires.every_of c.loop-i.i (omega arith) in
-    record { lossless_depths = c.requires.lossless_depths; inside_rgb = subst (InsideRGB c.args.d) (sym c.pixel_in-p.ensures) inside }
+    record {
+      lossless_depths = c.requires.lossless_depths;
+      inside_rgb = subst (InsideRGB c.args.d) (sym c.pixel_in-p.ensures) inside;
+    }
 
 pub overflow_step-i : goal.overflow_step-i
 overflow_step-i c = omega (arith, ((goal.at.overflow_step-i c).In-loop-i))

@@ -1,10 +1,9 @@
 -- `convert::each::lossless_forward` meets its contract: with each turn the rows are written one pixel further.
-use mathlib.Core.Path.{◌≡◌, refl, sym, subst}
+use mathlib.Core.Path.{◌≡◌}
 use Prim.Native.Nat.{◌-◌}
 use lib.ListN.{length}
-use Rattle.sample.specs.Depth.{InsideRGB}
 use Rattle.ycgco.specs.YCgCo.{lossless_forward}
-use Rattle.convert.proofs.RowLaws.{Written, written_none, written_more, written_all}
+use Rattle.convert.proofs.RowLaws.{Written}
 use Rattle.convert.proofs.each.lossless_forward.Given as goal
 
 abbrev pub invariant-loop-i : goal.invariant-loop-i

@@ -1,9 +1,9 @@
 -- `convert::each::lossy_forward` meets its contract: with each turn the rows are written one pixel further.
-use mathlib.Core.Path.{◌≡◌, refl}
+use mathlib.Core.Path.{◌≡◌}
 use Prim.Native.Nat.{◌-◌}
 use lib.ListN.{length}
 use Rattle.ycgco.specs.YCgCo.{lossy_forward}
-use Rattle.convert.proofs.RowLaws.{Written, written_none, written_more, written_all}
+use Rattle.convert.proofs.RowLaws.{Written}
 use Rattle.convert.proofs.each.lossy_forward.Given as goal
 
 abbrev pub invariant-loop-i : goal.invariant-loop-i

@@ -1,10 +1,7 @@
 -- `convert::each::lossy_reverse` meets its contract: with each turn the rows are written one pixel further.
-use mathlib.Core.Path.{◌≡◌, refl}
-use Prim.Native.Nat.{◌-◌}
+use mathlib.Core.Path.{refl}
 use native.Mathlib.Omega.{arith}
-use lib.ListN.{length}
-use Rattle.ycgco.specs.YCgCo.{lossy_reverse}
-use Rattle.convert.proofs.RowLaws.{Written, written_none, written_more, written_all}
+use Rattle.convert.proofs.RowLaws.{written_none, written_more, written_all}
 use Rattle.convert.proofs.each.lossy_reverse.Goals as goal
 use Rattle.convert.proofs.each.lossy_reverse.Goals.{In-loop-i}
 

@@ -1,11 +1,8 @@
 -- `convert::line_rows::line_plane` meets its contract: with each turn the row is written one sample further.
-use mathlib.Core.Path.{◌≡◌, refl, sym, subst}
-use Prim.Native.Nat.{◌-◌}
+use mathlib.Core.Path.{refl, sym, subst}
 use native.Mathlib.Omega.{arith}
-use lib.ListN.{length}
 use Rattle.levels.specs.Conversion.{SamplesFit}
-use Rattle.levels.specs.Lines.{line_sample}
-use Rattle.convert.proofs.RowLaws.{WrittenPlane, plane_none, plane_more, plane_all}
+use Rattle.convert.proofs.RowLaws.{plane_none, plane_more, plane_all}
 use Rattle.convert.proofs.line_rows.line_plane.Goals as goal
 
 pub loop-i-init : goal.loop-i-init

@@ -1,10 +1,9 @@
 -- `convert::line_rows::line_plane` meets its contract: with each turn the row is written one sample further.
-use mathlib.Core.Path.{◌≡◌, refl, sym, subst}
+use mathlib.Core.Path.{◌≡◌}
 use Prim.Native.Nat.{◌-◌}
 use lib.ListN.{length}
-use Rattle.levels.specs.Conversion.{SamplesFit}
 use Rattle.levels.specs.Lines.{line_sample}
-use Rattle.convert.proofs.RowLaws.{WrittenPlane, plane_none, plane_more, plane_all}
+use Rattle.convert.proofs.RowLaws.{WrittenPlane}
 use Rattle.convert.proofs.line_rows.line_plane.Given as goal
 
 abbrev pub invariant-loop-i : goal.invariant-loop-i

@@ -26,7 +26,11 @@ lossy_reverse-requires c =
 pub lossless_forward-requires : goal.lossless_forward-requires
 lossless_forward-requires c =
     let e = c.in-LosslessForward.is in
-    record { lossless_depths = subst Roomy e c.requires.roomy; one_width = c.requires.one_width; every_of = all_taken c.args.a0.now c.args.a1.now c.args.a2.now e c.requires.every_of }
+    record {
+      lossless_depths = subst Roomy e c.requires.roomy;
+      one_width = c.requires.one_width;
+      every_of = all_taken c.args.a0.now c.args.a1.now c.args.a2.now e c.requires.every_of;
+    }
 
 pub lossless_reverse-requires : goal.lossless_reverse-requires
 lossless_reverse-requires c =
@@ -36,7 +40,11 @@ lossless_reverse-requires c =
 pub by_lines-requires : goal.by_lines-requires
 by_lines-requires c =
     let e = c.in-Lines.is in
-    record { all_ready = subst Roomy e c.requires.roomy; one_width = c.requires.one_width; every_of = all_taken c.args.a0.now c.args.a1.now c.args.a2.now e c.requires.every_of }
+    record {
+      all_ready = subst Roomy e c.requires.roomy;
+      one_width = c.requires.one_width;
+      every_of = all_taken c.args.a0.now c.args.a1.now c.args.a2.now e c.requires.every_of;
+    }
 
 pub returns-in-PlacesForward : goal.returns-in-PlacesForward
 returns-in-PlacesForward c =

@@ -1,7 +1,6 @@
 -- `setting::admission::admit_depths` meets its contract: each test that was passed takes one rule away.
 use mathlib.Core.Path.{◌≡◌, sym, ap, ◌∙◌}
 use mathlib.Core.Bool.{Bool, true, false}
-use borrow.Author.Tests.{not-true, not-false}
 use Rattle.sample.specs.declared.Depths.{Depths}
 use Rattle.sample.specs.declared.DepthsChecked.TheVariants as checked
 use Rattle.sample.proofs.DepthLaws.{was_outside, were_depths}

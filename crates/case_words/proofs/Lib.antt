@@ -1,0 +1,2 @@
+-- Laws of planes that are read.
+pub mod PlaneLaws
