@@ -124,5 +124,8 @@ pub fn asked(rt: &(impl Env + Files<File = File> + Print), words: &[u8]) -> io::
             Err(FillError::NotPresent) => unopened(rt, words::EINVAL),
         };
     }
-    say(rt, b"word 2 is missing; expected: the name of an MP4, MOV or AVIF file\n")
+    say(
+        rt,
+        b"word 2 is missing; expected: the name of an MP4, MOV or AVIF file\n",
+    )
 }

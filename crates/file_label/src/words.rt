@@ -79,7 +79,10 @@ fn trouble(rt: &impl Print, t: Trouble) -> io::Result<()> {
             say(rt, b"cannot read the file: ")?;
             reason(rt, error)
         }
-        Trouble::Stranger => say(rt, b"not an MP4, MOV or AVIF file: it does not begin as one\n"),
+        Trouble::Stranger => say(
+            rt,
+            b"not an MP4, MOV or AVIF file: it does not begin as one\n",
+        ),
         Trouble::Beyond { header, left } => {
             box_name(rt, header)?;
             number(rt, left)?;
@@ -140,7 +143,10 @@ fn label(rt: &impl Print, l: ColourLabel) -> io::Result<()> {
 fn older(rt: &impl Print, c: Codes) -> io::Result<()> {
     say(rt, b"older label: ")?;
     codes(rt, c.primaries, c.transfer, c.matrix)?;
-    say(rt, b"without a range flag (nclc); find out whether its range is narrow or full\n")
+    say(
+        rt,
+        b"without a range flag (nclc); find out whether its range is narrow or full\n",
+    )
 }
 
 fn refused(rt: &impl Print, n: u8) -> io::Result<()> {
@@ -155,13 +161,19 @@ fn refused(rt: &impl Print, n: u8) -> io::Result<()> {
 pub fn sentence(rt: &impl Print, said: Said) -> io::Result<()> {
     match said {
         Said::Other => say(rt, b"no colour record: the file has no pictures\n"),
-        Said::Nothing => say(rt, b"no colour record: nothing says what its colours mean\n"),
+        Said::Nothing => say(
+            rt,
+            b"no colour record: nothing says what its colours mean\n",
+        ),
         Said::Profile => say(rt, b"ICC profile: it has that instead of a colour record\n"),
         Said::Older(c) => older(rt, c),
         Said::Label(l) => label(rt, l),
         Said::Refused(n) => refused(rt, n),
         Said::Differ => {
-            say(rt, b"differing records: the file has colour records that do not agree\n")
+            say(
+                rt,
+                b"differing records: the file has colour records that do not agree\n",
+            )
         }
         Said::Bad(t) => trouble(rt, t),
     }
