@@ -160,19 +160,16 @@ fn all_words(rt: &impl Env, count: usize, words: &mut [u8]) -> usize
     at
 }
 
-// How many words the command line has, with the program's name.
-fn arg_count(rt: &impl Env) -> usize {
-    let mut one = [0u8; 1];
-    for i in 0..usize::MAX {
-        if let Err(FillError::NotPresent) = rt.arg(i, &mut one) {
-            return i;
-        }
-    }
-    usize::MAX
-}
-
 fn main(rt: HostRuntime) -> io::Result<()> {
-    let count = arg_count(&rt);
+    // the words of the command line, with the program's name, but no more than are read and one
+    let mut count = 0;
+    let mut one = [0u8; 1];
+    for i in 0..MOST_WORDS + 2 {
+        if let Err(FillError::NotPresent) = rt.arg(i, &mut one) {
+            break;
+        }
+        count = i + 1;
+    }
     if count < 2 {
         return wording::usage(&rt);
     }

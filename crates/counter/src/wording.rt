@@ -34,6 +34,12 @@ pub fn usage(rt: &impl Print) -> io::Result<()> {
         rt,
         b"  cork help                                 these lines, as without any word\n\n",
     )?;
+    words_of_setting(rt)?;
+    statuses(rt)
+}
+
+// What stands for EDITION and SETTING.
+fn words_of_setting(rt: &impl Print) -> io::Result<()> {
     say(
         rt,
         b"EDITION is the text of H.273 that the label was written by: 2021, draft or published.\n",
@@ -54,7 +60,11 @@ pub fn usage(rt: &impl Print) -> io::Result<()> {
     say(
         rt,
         b"  cork forward draft 1 1 15 8 10 10 full full 255 0 0\n\n",
-    )?;
+    )
+}
+
+// What the status says.
+fn statuses(rt: &impl Print) -> io::Result<()> {
     say(
         rt,
         b"Status: 0 for an answer, 1 for a refusal, 2 for words that were not understood.\n",
@@ -136,6 +146,13 @@ pub fn meaning(rt: &impl Print, n: u8) -> io::Result<()> {
             )?;
             old_label(rt)
         }
+        _ => meaning_past_settings(rt, n),
+    }
+}
+
+// The same of the numbers that no setting gets.
+fn meaning_past_settings(rt: &impl Print, n: u8) -> io::Result<()> {
+    match n {
         8 => say(
             rt,
             b"width or height is outside 1 to 8192, or a stride is below the width or above 16384",

@@ -52,9 +52,9 @@ module _ (way : Way) (s : Setting) (a : Picture) (b : Layout) where
     unfolding frame_answer
     done = rw e
 
-    pub plane-done : (k : ℕ) → out_plane k way s a b ≡ converted_plane k way x a b.stride (length_of k b)
+    pub plane_done : (k : ℕ) → out_plane k way s a b ≡ converted_plane k way x a b.stride (length_of k b)
     unfolding out_plane
-    plane-done k = rw e
+    plane_done k = rw e
 
   -- a call that is refused
   module _ (r : Refusal) (e : frame_admission way s a b ≡ admission.Refused r) where
@@ -62,12 +62,12 @@ module _ (way : Way) (s : Setting) (a : Picture) (b : Layout) where
     unfolding frame_answer
     refused = rw e
 
-    pub plane-refused : (k : ℕ) → out_plane k way s a b ≡ zeros (length_of k b)
+    pub plane_refused : (k : ℕ) → out_plane k way s a b ≡ zeros (length_of k b)
     unfolding out_plane
-    plane-refused k = rw e
+    plane_refused k = rw e
 
     zeroed : {q0 q1 q2 : List ℕ} → (q0 ≡ zeros b.n0) × ((q1 ≡ zeros b.n1) × (q2 ≡ zeros b.n2)) → FrameAfter way s a b (Refused r) q0 q1 q2
-    zeroed z = (sym refused, (z.0 ∙ sym (plane-refused 0), (z.1.0 ∙ sym (plane-refused 1), z.1.1 ∙ sym (plane-refused 2))))
+    zeroed z = (sym refused, (z.0 ∙ sym (plane_refused 0), (z.1.0 ∙ sym (plane_refused 1), z.1.1 ∙ sym (plane_refused 2))))
 
   -- it is refused by its setting or its sizes
   pub refused_first : (r : Refusal) → by_sizes (Convert way) s a b ≡ admission.Refused r
@@ -79,7 +79,7 @@ module _ {way : Way} {s : Setting} {a : Picture} {b : Layout} {x : Served} (l : 
   painted_all inside m =
       let e = let_in l inside in (
         sym (done way s a b x e),
-        (m.0 ∙ sym (plane-done way s a b x e 0), (m.1.0 ∙ sym (plane-done way s a b x e 1), m.1.1 ∙ sym (plane-done way s a b x e 2))),
+        (m.0 ∙ sym (plane_done way s a b x e 0), (m.1.0 ∙ sym (plane_done way s a b x e 1), m.1.1 ∙ sym (plane_done way s a b x e 2))),
       )
 
   -- what is not let in is refused, whatever its answer says

@@ -1,4 +1,6 @@
 // Whole frames: the refusals first, and then either every row or zeros everywhere.
+#![tactic(auto)]
+
 mod picture;
 
 ghost use Rattle.std.specs.Prelude.{◌≡◌, length};

@@ -1,4 +1,6 @@
 // The image check: does a picture of Y, Cb, Cr come from one of R, G, B?
+#![tactic(auto)]
+
 mod passing;
 
 ghost use Rattle.std.specs.Prelude.{◌≡◌};

@@ -1,4 +1,6 @@
 // A claimed picture, judged: is each of its pixels the one that the box's own conversion of the source gives?
+#![tactic(auto)]
+
 mod picture;
 mod run;
 

@@ -1,5 +1,6 @@
 // Boxes found in an open file. A few thousand bytes are read at a time, from where the next box starts.
-ghost use Rattle.std.specs.Prelude.{◌≡◌, ◌≤◌, ◌+◌, ◌-◌, length};
+ghost use Rattle.std.specs.Prelude.{◌≡◌, ◌≤◌, ◌+◌, ◌-◌, length, IfSome};
+ghost use Rattle.std.specs.IoError.{raw_os_error};
 ghost use Rattle.media.specs.Counts.{IsPrefixLen};
 ghost use Rattle.media.specs.Inside.{Lying, Here, FoundIn};
 
@@ -69,7 +70,9 @@ struct Seen {
 }
 
 // The reason of a call that failed, in the system's numbers.
-pub fn reason_of(e: io::Error) -> i32 {
+pub fn reason_of(e: io::Error) -> i32
+    ensures { IfSome (raw_os_error e) (λ n. result ≡ n) }
+{
     e.raw_os_error().unwrap_or(OTHER)
 }
 

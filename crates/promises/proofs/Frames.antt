@@ -22,7 +22,7 @@ use Rattle.plan.specs.Conversion.{convert}
 use Rattle.admit.specs.Rules.{picture_rules, frame_admission}
 use Rattle.admit.proofs.Accepted.{PictureAccepted, all_fit}
 use Rattle.frame.specs.Frame.{frame_answer, converted_plane, plane_by, length_of, out_plane, PlanesAfter}
-use Rattle.frame.proofs.FrameLaws.{plane-done, plane-refused}
+use Rattle.frame.proofs.FrameLaws.{plane_done, plane_refused}
 use Rattle.corkplover.specs.Meaning.{Meaning, meaning_of_frame}
 use Rattle.promises.specs.Frames.{ConvertsFrame, Outside}
 use Rattle.promises.specs.Refusing.{RefusedBy}
@@ -42,7 +42,7 @@ module _ (w : Way) (s : Setting) (a : Picture) (b : Layout) where
   refused_zero : RefusedBy (meaning_of_frame (frame_answer w s a b)) (picture_rules (call.Convert w) s a (b ∷ [])) → (k n : ℕ) → n < length_of k b
       → get_or (out_plane k w s a b) n 0 ≡ 0
   refused_zero r k n h =
-      ap (λ p. get_or p n 0) (plane-refused w s a b r.refusal (first_refused (call.Convert w) s _ _ r.refusal r.is_first) k) ∙ tab_at (length_of k b) _ n h
+      ap (λ p. get_or p n 0) (plane_refused w s a b r.refusal (first_refused (call.Convert w) s _ _ r.refusal r.is_first) k) ∙ tab_at (length_of k b) _ n h
 
   -- an accepted one writes the converted picture
   module _ (h : NoneApplies (picture_rules (call.Convert w) s a (b ∷ []))) where
@@ -53,7 +53,7 @@ module _ (w : Way) (s : Setting) (a : Picture) (b : Layout) where
     frame-accepted = none_accepted (call.Convert w) s _ _ h
 
     plane_is : (k : ℕ) → out_plane k w s a b ≡ converted_plane k w (served s) a b.stride (length_of k b)
-    plane_is k = plane-done w s a b (served s) let_in k
+    plane_is k = plane_done w s a b (served s) let_in k
 
     fit : Fits a.width a.height b
     fit = (all_fit (call.Convert w) s a (b ∷ []) frame-accepted).1.0

@@ -4,7 +4,6 @@ use native.Mathlib.Omega.{arith}
 use Rattle.sample.specs.Depth.{UpTo}
 use Rattle.convert.proofs.RowLaws.{written_none, written_more, written_all}
 use Rattle.rows.proofs.light_rows.by_light.Goals as goal
-use Rattle.rows.proofs.light_rows.by_light.Goals.{In-loop-i}
 
 pub loop-i-init : goal.loop-i-init
 loop-i-init c = (refl, written_none c.requires.one_width)

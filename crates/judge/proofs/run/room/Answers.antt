@@ -2,11 +2,7 @@
 use Prim.Native.Nat.{ℕ}
 use lib.ListN.{length-replicate}
 use Rattle.compare.specs.Compare.{most_part}
-use Rattle.judge.proofs.run.room.Statement.{statement}
-use Rattle.judge.proofs.run.room.Tie as tie
+use Rattle.judge.proofs.run.room.Goals as goal
 
-returns : tie.Need-returns
+pub returns : goal.returns
 returns c = length-replicate {A = ℕ} most_part 0
-
-pub room-spec : {M : Type 1} → statement M
-room-spec = tie.close (tie.spec returns)
