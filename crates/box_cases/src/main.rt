@@ -21,8 +21,12 @@ fn read_full(input: &mut impl Read, room: &mut [u8]) -> io::Result<usize>
     Ok(done)
 }
 
+// The answers to all cases of the input, as far as there is room for its text.
+fn answered(rt: &(impl Input + Print), room: &mut [u8]) -> io::Result<()> {
+    let n = read_full(&mut rt.reader(), room)?;
+    case_lines::all(rt, &room[..n])
+}
+
 fn main(rt: HostRuntime) -> io::Result<()> {
-    let mut text = case_lines::room();
-    let n = read_full(&mut rt.stdin(), &mut text)?;
-    case_lines::all(&rt, &text[..n])
+    answered(&rt, &mut case_lines::room())
 }
