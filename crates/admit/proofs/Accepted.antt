@@ -33,7 +33,7 @@ use Rattle.scan.proofs.Searches.{none_with}
 use Rattle.scan.proofs.SearchTheorems.{nothing_in_pixels_means}
 use Rattle.planes.proofs.SizeTheorems.{fits}
 use Rattle.admit.specs.Rules.{call_admission, sized_admission, beyond_depth, pixel_picture, pixel_admission, sample_admission}
-use Rattle.admit.proofs.AdmitLaws.{admitted_passed, in_turn, by-sample}
+use Rattle.admit.proofs.AdmitLaws.{admitted_passed, in_turn, by_sample}
 
 -- no rule applies
 pub record Accepted (call : Call) (s : Setting) (sizes : List Rule) (bad : Bad) : Type 0 where
@@ -57,7 +57,7 @@ module _ (call : Call) (s : Setting) (sizes : List Rule) (bad : Bad) where
 
   pub of_accepted : Accepted call s sizes bad → call_admission call s sizes bad ≡ admission.Admitted (served s)
   unfolding first
-  of_accepted k = sym (by-sample call s sizes bad k.setting k.sizes_pass) ∙ rw k.samples
+  of_accepted k = sym (by_sample call s sizes bad k.setting k.sizes_pass) ∙ rw k.samples
 
   pub is_ready : Accepted call s sizes bad → Ready (served s)
   is_ready k = ready call s k.setting
@@ -74,7 +74,7 @@ module _ (call : Call) (s : Setting) (sizes : List Rule) (x : Served) (e : sized
   sized_ready = subst Ready is_served (ready call s sized.0)
 
   pub then_samples : (bad : Bad) → admitted (first (bad_rule bad ∷ [])) x ≡ call_admission call s sizes bad
-  then_samples bad = sym (ap (admitted (first (bad_rule bad ∷ []))) is_served) ∙ by-sample call s sizes bad sized.0 sized.1
+  then_samples bad = sym (ap (admitted (first (bad_rule bad ∷ []))) is_served) ∙ by_sample call s sizes bad sized.0 sized.1
 
 -- a sample is not above the largest of its depth exactly if it is below 2^depth
 within : (d v : ℕ) → (v ≤ M d) ↔ (v < 2 ^ d)
@@ -105,8 +105,8 @@ module _ (call : Call) (s : Setting) (a : Picture) (others : List Layout) where
     pub all_fit : EveryLayout (Fits a.width a.height) (layout_of a ∷ others)
     all_fit = fits _ _ _ k.sizes_pass
 
-    pub pixels-inside : EveryPixel (InsideOf (reads call) (depths s)) a
-    pixels-inside = (inside_exactly (reads call) (depths s) a).0 k.samples
+    pub pixels_inside : EveryPixel (InsideOf (reads call) (depths s)) a
+    pixels_inside = (inside_exactly (reads call) (depths s) a).0 k.samples
 
 -- of a call on a pixel
 pub record PixelAdmitted (side : Side) (p : Pixel) (x : Served) : Type 0 where

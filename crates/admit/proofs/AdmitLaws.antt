@@ -63,25 +63,25 @@ module _ (call : Call) (s : Setting) where
     unfolding call_admission
     by_parts = ap (λ c. admitted c (served s)) (sym (in_turn call s sizes bad))
 
-    pub by-setting : (r : Refusal) → first (setting_rules call s) ≡ check.Refused r → admission.Refused r ≡ call_admission call s sizes bad
-    by-setting r e = ap (λ a. answer a (first sizes)) (sym e) ∙ by_parts
+    pub by_setting : (r : Refusal) → first (setting_rules call s) ≡ check.Refused r → admission.Refused r ≡ call_admission call s sizes bad
+    by_setting r e = ap (λ a. answer a (first sizes)) (sym e) ∙ by_parts
 
     pub by_size : (r : Refusal) → first (setting_rules call s) ≡ check.Passed → first sizes ≡ check.Refused r → admission.Refused r ≡ call_admission call s sizes bad
     by_size r e f = (λ i. answer (sym e i) (sym f i)) ∙ by_parts
 
-    pub by-sample : first (setting_rules call s) ≡ check.Passed → first sizes ≡ check.Passed
+    pub by_sample : first (setting_rules call s) ≡ check.Passed → first sizes ≡ check.Passed
         → admitted (first (bad_rule bad ∷ [])) (served s) ≡ call_admission call s sizes bad
-    by-sample e f = (λ i. answer (sym e i) (sym f i)) ∙ by_parts
+    by_sample e f = (λ i. answer (sym e i) (sym f i)) ∙ by_parts
 
     -- the code's own answer, of the setting as it was checked and of what was found
-    pub past-setting : (a b : Admission) (x : Served) (f : Bad) → a ≡ setting_admission call s → a ≡ admission.Admitted x → first sizes ≡ check.Passed
+    pub past_setting : (a b : Admission) (x : Served) (f : Bad) → a ≡ setting_admission call s → a ≡ admission.Admitted x → first sizes ≡ check.Passed
         → f ≡ bad → b ≡ admitted (first (bad_rule f ∷ [])) x → b ≡ call_admission call s sizes bad
-    past-setting a b x f e g h q r =
+    past_setting a b x f e g h q r =
         let t = served_setting a x e g in
-        r ∙ (λ i. admitted (first (bad_rule (q i) ∷ [])) (sym t.1 i)) ∙ by-sample t.0 h
+        r ∙ (λ i. admitted (first (bad_rule (q i) ∷ [])) (sym t.1 i)) ∙ by_sample t.0 h
 
-    pub not-past : (a : Admission) (r : Refusal) → a ≡ setting_admission call s → a ≡ admission.Refused r → a ≡ call_admission call s sizes bad
-    not-past a r e f = f ∙ by-setting r (refused_setting a r e f)
+    pub not_past : (a : Admission) (r : Refusal) → a ≡ setting_admission call s → a ≡ admission.Refused r → a ≡ call_admission call s sizes bad
+    not_past a r e f = f ∙ by_setting r (refused_setting a r e f)
 
   -- who is refused before samples are looked at is refused
   refused_before : (a b c : Check) (x : Served) (r : Refusal) → admitted (or_else a (or_else b check.Passed)) x ≡ admission.Refused r
@@ -117,13 +117,13 @@ module _ (Q : Admission → Type 0) (call : Call) (s : Setting) (sizes : List Ru
     by_found h (At place v) e = of-sample h place v e
     by_found h Nothing e = of-served
 
-    past-sizes : first (setting_rules call s) ≡ check.Passed → (k : Check) → first sizes ≡ k → Q (call_admission call s sizes bad)
-    past-sizes e check.Passed f = subst Q (by-sample call s sizes bad e f) (by_found f bad refl)
-    past-sizes e (check.Refused r) f = subst Q (by_size call s sizes bad r e f) (of-sizes r f)
+    past_sizes : first (setting_rules call s) ≡ check.Passed → (k : Check) → first sizes ≡ k → Q (call_admission call s sizes bad)
+    past_sizes e check.Passed f = subst Q (by_sample call s sizes bad e f) (by_found f bad refl)
+    past_sizes e (check.Refused r) f = subst Q (by_size call s sizes bad r e f) (of-sizes r f)
 
-    by-check : (k : Check) → first (setting_rules call s) ≡ k → Q (call_admission call s sizes bad)
-    by-check check.Passed e = past-sizes e (first sizes) refl
-    by-check (check.Refused r) e = subst Q (by-setting call s sizes bad r e) (of-setting r e)
+    by_check : (k : Check) → first (setting_rules call s) ≡ k → Q (call_admission call s sizes bad)
+    by_check check.Passed e = past_sizes e (first sizes) refl
+    by_check (check.Refused r) e = subst Q (by_setting call s sizes bad r e) (of-setting r e)
 
-    pub each-answer : Q (call_admission call s sizes bad)
-    each-answer = by-check (first (setting_rules call s)) refl
+    pub each_answer : Q (call_admission call s sizes bad)
+    each_answer = by_check (first (setting_rules call s)) refl

@@ -14,7 +14,7 @@ use Rattle.planes.specs.Sizes.{Fits}
 use Rattle.planes.specs.declared.size.Layout.{Layout}
 use Rattle.planes.proofs.SizeTheorems.{fits}
 use Rattle.admit.specs.Rules.{call_admission, by_sizes, frame_admission}
-use Rattle.admit.proofs.Accepted.{accepted_of, pixels-inside, sized, is_served, sized_ready, inside_exactly}
+use Rattle.admit.proofs.Accepted.{accepted_of, pixels_inside, sized, is_served, sized_ready, inside_exactly}
 
 -- its setting and its sizes let it in, with x served
 pub record FrameSized (way : Way) (s : Setting) (a : Picture) (b : Layout) (x : Served) : Type 0 where
@@ -40,4 +40,4 @@ module _ {way : Way} {s : Setting} {a : Picture} {b : Layout} {x : Served} (l : 
   not_let_in none y e =
       let k = accepted_of (Convert way) s _ _ y e in
       let same = is_served (Convert way) s _ x l.is_sized in
-      none (subst (λ (y : Served). EveryPixel (InsideOf (input_of way) y.depths) a) same (pixels-inside (Convert way) s a (b ∷ []) k.0))
+      none (subst (λ (y : Served). EveryPixel (InsideOf (input_of way) y.depths) a) same (pixels_inside (Convert way) s a (b ∷ []) k.0))

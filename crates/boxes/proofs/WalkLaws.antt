@@ -80,29 +80,29 @@ module _ (s : List ℕ) (room kind : ℕ) where
   rest_all = record { boxes = room; enough = omega arith; same = refl }
 
   module _ (at : ℕ) (r : Rest s room kind at) where
-    rest-now : walked s room kind ≡ onward kind (walked_from r.boxes s room kind) (box_at s room at)
+    rest_now : walked s room kind ≡ onward kind (walked_from r.boxes s room kind) (box_at s room at)
     unfolding walked_from
-    rest-now = r.same
+    rest_now = r.same
 
     -- a box that is not wanted is passed
-    pub rest-next : (h : Header) → at ≤ room → box_at s room at ≡ Found h → wanted kind h.kind ≡ false
+    pub rest_next : (h : Header) → at ≤ room → box_at s room at ≡ Found h → wanted kind h.kind ≡ false
         → at < h.at + h.size → h.at + h.size ≤ room → Rest s room kind (h.at + h.size)
     unfolding onward
-    rest-next h k e f l m = go r.boxes r.enough (rest-now ∙ rw (e, f))
+    rest_next h k e f l m = go r.boxes r.enough (rest_now ∙ rw (e, f))
       where
         go : (n : ℕ) → room - at < suc n → walked s room kind ≡ walked_from n s room kind (h.at + h.size)
             → Rest s room kind (h.at + h.size)
         go zero g p = absurd (omega arith)
         go (suc n) g p = record { boxes = n; enough = omega arith; same = p }
 
-    pub rest-found : (h : Header) → box_at s room at ≡ Found h → wanted kind h.kind ≡ true → walked s room kind ≡ Found h
+    pub rest_found : (h : Header) → box_at s room at ≡ Found h → wanted kind h.kind ≡ true → walked s room kind ≡ Found h
     unfolding onward
-    rest-found h e f = rest-now ∙ rw (e, f)
+    rest_found h e f = rest_now ∙ rw (e, f)
 
     -- what is no box ends the walk
     pub rest_other : ((h : Header) → box_at s room at ≡ Found h → ⊥) → walked s room kind ≡ box_at s room at
     unfolding onward
-    rest_other k = rest-now ∙ go (box_at s room at) k
+    rest_other k = rest_now ∙ go (box_at s room at) k
       where
         go : (w : Walked) → ((h : Header) → w ≡ Found h → ⊥) → onward kind (walked_from r.boxes s room kind) w ≡ w
         go (Found h) k = absurd (k h refl)

@@ -3,7 +3,7 @@ use mathlib.Core.Path.{◌≡◌, sym, ap, ◌∙◌}
 use Prim.Native.Nat.{ℕ, ◌+◌, ◌*◌, ◌-◌, ◌/◌, ◌≤◌, ◌<◌, min}
 use native.Mathlib.Nat.{add_assoc, mul-le-mul_left, mul-le-mul_right, div-mul-le_self, lt-div-mul-add}
 use native.Mathlib.Omega.{arith}
-use Rattle.rounding.proofs.Lifted.{Lifted, low-side, high-side, no-mid}
+use Rattle.rounding.proofs.Lifted.{Lifted, low_side, high_side, no_mid}
 use Rattle.sample.specs.declared.Pixel.{Pixel}
 use Rattle.levels.specs.declared.lines.Line.{Line}
 use Rattle.levels.specs.Lines.{added, taken, line_sample}
@@ -115,10 +115,10 @@ module _ {l : Line} {n : Numbers} (h : Stands l n) (p : Pixel) (inside : UpTo n.
 
   -- the line's sample, of those two numbers
   pub sample_below : sum_of n p / n.unit < n.lift → min (sum_of n p / n.unit - n.under) n.top ≡ line_sample l p
-  sample_below k = rw (down_is, h.top_is) (low-side lifted l.mid n.under l.top h.lift_is (rw down_is at k) ∙ sample_in_parts l p)
+  sample_below k = rw (down_is, h.top_is) (low_side lifted l.mid n.under l.top h.lift_is (rw down_is at k) ∙ sample_in_parts l p)
 
   pub sample_above : n.lift ≤ sum_of n p / n.unit → min ((sum_of n p + n.add) / n.unit - n.under) n.top ≡ line_sample l p
-  sample_above k = rw (up_is, h.top_is) (high-side lifted l.mid n.under l.top h.lift_is (rw down_is at k) ∙ sample_in_parts l p)
+  sample_above k = rw (up_is, h.top_is) (high_side lifted l.mid n.under l.top h.lift_is (rw down_is at k) ∙ sample_in_parts l p)
 
   pub sample_alone : l.mid ≡ 0 → min ((sum_of n p + n.add) / n.unit - n.under) n.top ≡ line_sample l p
-  sample_alone k = rw (up_is, h.top_is) (no-mid lifted l.mid n.under l.top h.lift_is k ∙ sample_in_parts l p)
+  sample_alone k = rw (up_is, h.top_is) (no_mid lifted l.mid n.under l.top h.lift_is k ∙ sample_in_parts l p)

@@ -68,8 +68,8 @@ module _ (way : Way) (s : Setting) (a b : Picture) where
   refused_after v r e f = refused r (sym e ∙ f)
 
   module _ {x : Served} (l : FrameSized way s a (layout_of b) x) (r : Told) (t : JudgedIf r way x a b) where
-    pub told-all : r.fine ≡ true → verdict r.first r.wrong ≡ judgement way s a b
+    pub told_all : r.fine ≡ true → verdict r.first r.wrong ≡ judgement way s a b
     unfolding judgement
-    told-all e =
+    told_all e =
         let m = t.1 e in
         (λ i. verdict (m.0 i) (m.1 i)) ∙ ap (λ v. judge_by v way a b) (sym (let_in l (t.0.0 e)))

@@ -61,14 +61,14 @@ module _ {tops : Pixel} {f : Pixel → Pixel} (a b : Picture) {r : Tally} (j : �
         let g = subst (λ n. RunsFine tops n a.width a.p0 a.p1 a.p2) starts h in
         record { within0 = g.0 i l; within1 = g.1.0 i l; within2 = g.1.1 i l }
 
-    fine-row : EveryPixel (NotAbove tops) a → j < a.height → RunsFine tops from a.width a.p0 a.p1 a.p2
-    fine-row h k =
+    fine_row : EveryPixel (NotAbove tops) a → j < a.height → RunsFine tops from a.width a.p0 a.p1 a.p2
+    fine_row h k =
         subst (λ n. RunsFine tops n a.width a.p0 a.p1 a.p2) (sym starts)
         (λ i l. (h j i k l).within0, (λ i l. (h j i k l).within1, λ i l. (h j i k l).within2))
 
     -- a row with a sample above its top
-    pub row-beyond : j < a.height → r.fine ≡ false → EveryPixel (NotAbove tops) a → ⊥
-    row-beyond k e h = t.tells.1 e (fine-row h k)
+    pub row_beyond : j < a.height → r.fine ≡ false → EveryPixel (NotAbove tops) a → ⊥
+    row_beyond k e h = t.tells.1 e (fine_row h k)
 
     told : r.fine ≡ true → Compared r true a.width (is_wrong f a b j)
     told e =
@@ -95,8 +95,8 @@ module _ {tops : Pixel} {f : Pixel → Pixel} (a b : Picture) {r : Tally} {n : �
     index_of : (k stride : ℕ) → stride ≡ a.width → 0 + k ≡ k / a.width * stride + k % a.width
     index_of k stride e = zero-add k ∙ sym (div-add-mod' k a.width) ∙ ap (λ s. k / a.width * s + k % a.width) (sym e)
 
-    at-index : (k : ℕ) → run_wrong f 0 0 a.p0 a.p1 a.p2 b.p0 b.p1 b.p2 k ≡ is_wrong f a b (k / a.width) (k % a.width)
-    at-index k =
+    at_index : (k : ℕ) → run_wrong f 0 0 a.p0 a.p1 a.p2 b.p0 b.p1 b.p2 k ≡ is_wrong f a b (k / a.width) (k % a.width)
+    at_index k =
         λ t. differ (f (pixel_in a.p0 a.p1 a.p2 (index_of k a.stride close t))) (pixel_in b.p0 b.p1 b.p2 (index_of k b.stride close-to t))
 
     inside : (j i : ℕ) → j < a.height → i < a.width → j * a.stride + i < n
@@ -117,11 +117,11 @@ module _ {tops : Pixel} {f : Pixel → Pixel} (a b : Picture) {r : Tally} {n : �
         λ k top p g. subst (λ m. get_or p m 0 ≤ top) (sym (index_of k a.stride close)) g in
         (λ k l. at k tops.p0 a.p0 (here k l).within0, (λ k l. at k tops.p1 a.p1 (here k l).within1, λ k l. at k tops.p2 a.p2 (here k l).within2))
 
-    pub whole-told : PictureTold (record { fine = r.fine; first = found_in r.first n a.width; wrong = r.wrong }) tops f a b
-    whole-told = (
+    pub whole_told : PictureTold (record { fine = r.fine; first = found_in r.first n a.width; wrong = r.wrong }) tops f a b
+    whole_told = (
       (λ e. every (t.tells.0 e), λ e h. t.tells.1 e (back h)),
       λ e.
-          let c = compared_same (λ k l. at-index k) (t.told e) in
+          let c = compared_same (λ k l. at_index k) (t.told e) in
           let test : ℕ → Bool = λ k. is_wrong f a b (k / a.width) (k % a.width) in (
             ap (λ m. found_in r.first m a.width) all
                 ∙ all_first (is_wrong f a b) a.width some a.height r.first (subst (λ m. FirstAt test m r.first) all (c.found refl)),

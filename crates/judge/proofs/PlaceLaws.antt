@@ -80,8 +80,8 @@ module _ (test : ℕ → ℕ → Bool) (width : ℕ) (some : 0 < width) where
 
   module _ (height first : ℕ) (f : FirstAt flat (height * width) first) where
     -- an earlier place has a smaller index
-    index-before : (j i row column : ℕ) → i < width → Before j i row column → j * width + i < row * width + column
-    index-before j i row column l o =
+    index_before : (j i row column : ℕ) → i < width → Before j i row column → j * width + i < row * width + column
+    index_before j i row column l o =
         ⊎_elim
         (λ (b : j < row). let m = mul-le-mul_right {m = suc j} {n = row} width b in omega (arith, suc-mul j width))
         (λ b. rw b.0 (omega (arith, b.1))) o
@@ -92,8 +92,8 @@ module _ (test : ℕ → ℕ → Bool) (width : ℕ) (some : 0 < width) where
     itself : (b : Bool) (j i : ℕ) → j < height → i < width → (test j i ≡ b) ↔ (test j i ≡ b)
     itself b j i l m = (λ e. e, λ e. e)
 
-    passes-before : (j i : ℕ) → i < width → j * width + i < first → test j i ≡ false
-    passes-before j i l h = sym (at_place j i l) ∙ f.none_before (j * width + i) h
+    passes_before : (j i : ℕ) → i < width → j * width + i < first → test j i ≡ false
+    passes_before j i l h = sym (at_place j i l) ∙ f.none_before (j * width + i) h
 
     pub all_first : found_in first (height * width) width ≡ first_place test 0 width height
     all_first =
@@ -106,11 +106,11 @@ module _ (test : ℕ → ℕ → Bool) (width : ℕ) (some : 0 < width) where
           row_inside = (div-lt_iff_lt-mul some).1 l;
           column_inside = mod-lt first some;
           fails = f.passes l;
-          none_before = λ j i h m o. passes-before j i m (subst (λ k. j * width + i < k) (div-add-mod' first width) (index-before j i (first / width) (first % width) m o));
+          none_before = λ j i h m o. passes_before j i m (subst (λ k. j * width + i < k) (div-add-mod' first width) (index_before j i (first / width) (first % width) m o));
         }))))
         (λ (l : height * width ≤ first).
         rw (le-leb (height * width) first l)
-        (sym ((no_place_means test 0 width height _ _ (itself true) (itself false)).1 (λ j i h m. passes-before j i m (omega (arith, index_inside j i h m))))))
+        (sym ((no_place_means test 0 width height _ _ (itself true) (itself false)).1 (λ j i h m. passes_before j i m (omega (arith, index_inside j i h m))))))
         (below_or_not first (height * width))
 
 -- ---- what a count of places says

@@ -133,12 +133,12 @@ module _ {tops : Pixel} {f : Pixel → Pixel} {from to n : ℕ} {a0 a1 a2 b0 b1 
                 ∙ sym (count_parts done m _);
           }
 
-      pub running-sought : sought ≡ true → first ≡ done → more (done + part.first)
-      running-sought s e =
+      pub running_sought : sought ≡ true → first ≡ done → more (done + part.first)
+      running_sought s e =
           with_first (first_part _ done m part.first (subst (FirstAt _ done) e r.first_at) (first_same (λ k o. shifted f from to done a0 a1 a2 b0 b1 b2 k) (c.found s)))
 
-      pub running-found : (first ≡ done → ⊥) → more first
-      running-found e = with_first (first_kept _ done m first r.first_at e)
+      pub running_found : (first ≡ done → ⊥) → more first
+      running_found e = with_first (first_kept _ done m first r.first_at e)
 
   -- all parts
   pub running_all : {first wrong done : ℕ} → Running tops f from to n a0 a1 a2 b0 b1 b2 first wrong done → done ≡ n

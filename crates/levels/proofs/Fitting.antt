@@ -32,31 +32,31 @@ module _ (s : LevelSetting) (h : LevelDepths s) where
 
   -- an equation's line into each kind of plane
   module _ (w : Equation) (r : EquationFits w) where
-    pub into-luma : LineFits w (readers_of_rgb (rgb_of s)) (luma_writer s)
-    into-luma = forward_fits w r _ (rgb_of s) rgb_fits (wider (light_writer_fits s.depths.luma.0 h.luma s.ycc_full))
+    pub into_luma : LineFits w (readers_of_rgb (rgb_of s)) (luma_writer s)
+    into_luma = forward_fits w r _ (rgb_of s) rgb_fits (wider (light_writer_fits s.depths.luma.0 h.luma s.ycc_full))
 
-    pub into-chroma : LineFits w (readers_of_rgb (rgb_of s)) (chroma_writer s)
-    into-chroma = forward_fits w r _ (rgb_of s) rgb_fits (chroma_writer_fits s.depths.chroma h.chroma s.ycc_full)
+    pub into_chroma : LineFits w (readers_of_rgb (rgb_of s)) (chroma_writer s)
+    into_chroma = forward_fits w r _ (rgb_of s) rgb_fits (chroma_writer_fits s.depths.chroma h.chroma s.ycc_full)
 
-    pub into-rgb : LineFits w (readers_of_ycc (luma_of s) (chroma_of s)) (rgb_writer s)
-    into-rgb = reverse_fits w r _ (luma_of s) (chroma_of s) luma_fits chroma_fits (light_writer_fits s.depths.rgb.0 h.rgb s.rgb_full)
+    pub into_rgb : LineFits w (readers_of_ycc (luma_of s) (chroma_of s)) (rgb_writer s)
+    into_rgb = reverse_fits w r _ (luma_of s) (chroma_of s) luma_fits chroma_fits (light_writer_fits s.depths.rgb.0 h.rgb s.rgb_full)
 
   -- so the lines of three equations are ready, either way
   module _ (e : Equations) (r : EquationsFit e) where
-    pub forward-ready : AllReady (forward_lines e s)
+    pub forward_ready : AllReady (forward_lines e s)
     unfolding forward_lines
-    forward-ready =
+    forward_ready =
         record {
-          first = line_ready (into-luma e.first r.first);
-          second = line_ready (into-chroma e.second r.second);
-          third = line_ready (into-chroma e.third r.third);
+          first = line_ready (into_luma e.first r.first);
+          second = line_ready (into_chroma e.second r.second);
+          third = line_ready (into_chroma e.third r.third);
         }
 
-    pub reverse-ready : AllReady (reverse_lines e s)
+    pub reverse_ready : AllReady (reverse_lines e s)
     unfolding reverse_lines
-    reverse-ready =
+    reverse_ready =
         record {
-          first = line_ready (into-rgb e.first r.first);
-          second = line_ready (into-rgb e.second r.second);
-          third = line_ready (into-rgb e.third r.third);
+          first = line_ready (into_rgb e.first r.first);
+          second = line_ready (into_rgb e.second r.second);
+          third = line_ready (into_rgb e.third r.third);
         }

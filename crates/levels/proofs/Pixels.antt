@@ -76,27 +76,27 @@ module _ (s : LevelSetting) (h : LevelDepths s) (p : Pixel) where
 
   -- the lines of a matrix
   module _ (m : LevelMatrix) (k : MatrixFits m) where
-    pub forward-law : lines_pixel (forward_lines m.forward s) p ≡ levels_forward m s p
+    pub forward_law : lines_pixel (forward_lines m.forward s) p ≡ levels_forward m s p
     unfolding levels_forward
-    forward-law = forward_by m.forward k.forward (by_equations m.forward k.forward)
+    forward_law = forward_by m.forward k.forward (by_equations m.forward k.forward)
 
-    pub reverse-law : lines_pixel (reverse_lines m.reverse s) p ≡ levels_reverse m s p
+    pub reverse_law : lines_pixel (reverse_lines m.reverse s) p ≡ levels_reverse m s p
     unfolding levels_reverse
-    reverse-law = reverse_by m.reverse k.reverse (by_equations m.reverse k.reverse)
+    reverse_law = reverse_by m.reverse k.reverse (by_equations m.reverse k.reverse)
 
   -- a luma matrix is the printed formulas
   module _ (k : Weights) (w : Shares k) where
-    pub luma-forward : levels_forward (luma_matrix k) s p ≡ luma_forward k s p
+    pub luma_forward_lem : levels_forward (luma_matrix k) s p ≡ luma_forward k s p
     unfolding levels_forward luma_forward luma_matrix
-    luma-forward =
+    luma_forward_lem =
         let e = (luma_matrix k).forward in
         let fits = (bounds.luma_fits k w).forward in
         sym (forward_by e fits (by_equations e fits))
         ∙ forward_by e fits (record { first = gives_y k w; second = gives_pb k w; third = gives_pr k w })
 
-    pub luma-reverse : levels_reverse (luma_matrix k) s p ≡ luma_reverse k s p
+    pub luma_reverse_lem : levels_reverse (luma_matrix k) s p ≡ luma_reverse k s p
     unfolding levels_reverse luma_reverse luma_matrix
-    luma-reverse =
+    luma_reverse_lem =
         let e = (luma_matrix k).reverse in
         let fits = (bounds.luma_fits k w).reverse in
         sym (reverse_by e fits (by_equations e fits))

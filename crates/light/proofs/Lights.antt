@@ -19,7 +19,7 @@ use Rattle.runs.proofs.Mixing.{lit, in_reach}
 use Rattle.light.specs.Light.{light_pixel, Plane, Stands}
 use Rattle.light.specs.declared.Light.{Light}
 use Rattle.light.specs.declared.scaled.Scaled.{Scaled}
-use Rattle.light.proofs.Scaling.{scaled-is}
+use Rattle.light.proofs.Scaling.{scaled_is}
 
 pub fits_before : {s : Scaled} {reach : ℕ} → Fits s reach → (n : ℕ) → n ≤ reach → Fits s n
 fits_before {s} {reach} f n l =
@@ -34,7 +34,7 @@ fits_before {s} {reach} f n l =
 plane_is : {l : Line} {most reach : ℕ} {n : Pixel → ℕ} {s : Scaled} → Plane l most n reach s → (p : Pixel) → UpTo most p → n p ≤ reach
     → scaled_sample s (n p) ≡ line_sample l p
 plane_is {l} h p w k =
-    scaled-is h.scales _ k (added l p) (taken l p) (h.follows.each p w)
+    scaled_is h.scales _ k (added l p) (taken l p) (h.follows.each p w)
     ∙ ap (λ d. clip l.top (round (pos (added l p) -ℤ pos (taken l p)) d +ℤ pos l.mid)) h.follows.over_is
     ∙ sample_in_parts l p
 

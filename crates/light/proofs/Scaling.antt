@@ -8,7 +8,7 @@ use native.Mathlib.Omega.{arith}
 use lib.IntN.{pos, ◌+ℤ◌, ◌-ℤ◌}
 use Rattle.rounding.specs.Rounding.{round, clip}
 use Rattle.rounding.proofs.Floors.{floor_past, floor_short}
-use Rattle.rounding.proofs.Lifted.{Lifted, upward, downward, no-mid}
+use Rattle.rounding.proofs.Lifted.{Lifted, upward, downward, no_mid}
 use Rattle.sample.proofs.Choices.{below_or_not}
 use Rattle.light.specs.Scaled.{whole_of, scaled_sample, Scales}
 use Rattle.runs.specs.declared.Run.{Run}
@@ -95,7 +95,7 @@ module _ {r : Run} {mid top reach : ℕ} {s : Scaled} (h : Scales r mid top reac
     raised z k =
         let u : rest ≤ h.e = let f = h.factor_under in omega arith in
         let v : rest * r.start ≤ h.e * h.spare = mul-le-mul u k in
-        rw (past (omega arith), h.top_is) (no-mid lifted mid s.under top h.under_is z)
+        rw (past (omega arith), h.top_is) (no_mid lifted mid s.under top h.under_is z)
 
     -- with a mid: past from the start on, and short before it
     pushed : r.level ≡ 0 → h.spare ≡ 0 → Is
@@ -112,5 +112,5 @@ module _ {r : Run} {mid top reach : ℕ} {s : Scaled} (h : Scales r mid top reac
         rw (past (omega arith), h.top_is) (upward lifted mid s.under top h.under_is (omega arith)))
         (below_or_not n r.start)
 
-    pub scaled-is : Is
-    scaled-is = ⊎_elim (λ k. raised k.0 k.1) (λ k. pushed k.0 k.1) h.sides
+    pub scaled_is : Is
+    scaled_is = ⊎_elim (λ k. raised k.0 k.1) (λ k. pushed k.0 k.1) h.sides

@@ -28,15 +28,15 @@ module _ (from end : ℕ) where
     differ : In said.Differ
     differ = omega arith
 
-    pub beside-in : SaidIn from end (beside a b)
+    pub beside_in : SaidIn from end (beside a b)
     unfolding beside
-    beside-in =
+    beside_in =
         tested In (eqb (key_of a) (key_of b)) _ _ p
         (tested In (ltb (rank_of (key_of a)) (rank_of (key_of b))) _ _ q (tested In (ltb (rank_of (key_of b)) (rank_of (key_of a))) _ _ p differ))
 
-    pub across-in : SaidIn from end (across a b)
+    pub across_in : SaidIn from end (across a b)
     unfolding across
-    across-in =
+    across_in =
         tested In (eqb (key_of a) (key_of b)) _ _ p
         (tested In (eqb (rank_of (key_of a)) 0) _ _ q
         (tested In (eqb (rank_of (key_of b)) 0) _ _ p
@@ -73,4 +73,4 @@ module _ (size : ℕ) where
   file_movie m n q = record { whole = q; image = omega arith }
 
   pub file_both : (i m : Said) (n : ℕ) → SaidIn 0 size i → SaidIn 0 size m → FileIn size (of_both i m n)
-  file_both i m n p q = record { whole = across-in 0 size i m p q; image = p }
+  file_both i m n p q = record { whole = across_in 0 size i m p q; image = p }

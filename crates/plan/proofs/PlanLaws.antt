@@ -13,8 +13,8 @@ use Rattle.levels.specs.Conversion.{MatrixFits, LevelDepths}
 use Rattle.levels.specs.declared.LevelSetting.{LevelSetting}
 use Rattle.levels.specs.declared.equations.LevelMatrix.{LevelMatrix}
 use Rattle.levels.proofs.Bounds.{samples_fit}
-use Rattle.levels.proofs.Fitting.{forward-ready, reverse-ready}
-use Rattle.levels.proofs.Pixels.{forward-law, reverse-law}
+use Rattle.levels.proofs.Fitting.{forward_ready, reverse_ready}
+use Rattle.levels.proofs.Pixels.{forward_law, reverse_law}
 use Rattle.codes.specs.declared.matrix.Formulas.{Formulas}
 use Rattle.codes.specs.declared.matrix.Formulas.TheVariants.{ChangePlaces, YCgCo, Levels}
 use Rattle.setting.specs.Call.{input_of}
@@ -54,15 +54,15 @@ ycgco_plans way d h k =
 levels_plans : (way : Way) (m : LevelMatrix) (s : LevelSetting) → MatrixFits m → LevelDepths s → Plans (levels_by way m s) (input_of way) s.depths (levels_plan way m s)
 levels_plans Forward m s k h =
     record {
-      roomy = forward-ready s h m.forward k.forward;
+      roomy = forward_ready s h m.forward k.forward;
       takes = λ p i. samples_fit h.rgb h.rgb h.rgb i;
-      is = λ p. forward-law s h p m k;
+      is = λ p. forward_law s h p m k;
     }
 levels_plans Reverse m s k h =
     record {
-      roomy = reverse-ready s h m.reverse k.reverse;
+      roomy = reverse_ready s h m.reverse k.reverse;
       takes = λ p i. samples_fit h.luma h.chroma h.chroma i;
-      is = λ p. reverse-law s h p m k;
+      is = λ p. reverse_law s h p m k;
     }
 
 plans_by : (way : Way) (f : Formulas) (s : Served) → ThreeDepths s.depths → Agreed f s → Plans (convert_by way f s) (input_of way) s.depths (plan_by way f s)

@@ -42,22 +42,22 @@ module _ (say : Admission → Meaning) (c : Call) (s : Setting) (n : ℕ) (sizes
     abbrev other : Admission
     other = call_admission c (in_edition n s) sizes bad
 
-    both-admitted : (say one).number ≡ 0 → (say other).number ≡ 0 → other ≡ one
-    both-admitted e f =
+    both_admitted : (say one).number ≡ 0 → (say other).number ≡ 0 → other ≡ one
+    both_admitted e f =
         let none = refuses.exactly.accepted e in
         let none' = refuses'.exactly.accepted f in
         let same = same_served c s n (none_accepted c s sizes bad none).setting (none_accepted c (in_edition n s) sizes bad none').setting in
         none_admitted c (in_edition n s) sizes bad none' ∙ ap Admitted same ∙ sym (none_admitted c s sizes bad none)
 
-    admitted-alike : (say one).number ≡ 0 → (other ≡ one) ⊎ ((say other).number ≡ 0 → ⊥)
-    admitted-alike e = go (ℕ_discrete (say other).number 0)
+    admitted_alike : (say one).number ≡ 0 → (other ≡ one) ⊎ ((say other).number ≡ 0 → ⊥)
+    admitted_alike e = go (ℕ_discrete (say other).number 0)
       where
         go : Dec ((say other).number ≡ 0) → (other ≡ one) ⊎ ((say other).number ≡ 0 → ⊥)
-        go (yes f) = inl (both-admitted e f)
+        go (yes f) = inl (both_admitted e f)
         go (no f) = inr f
 
-    same-or-refused : SameOrRefused (say one) (say other)
-    same-or-refused e = ⊎_elim (λ f. inl (ap say f)) inr (admitted-alike e)
+    same_or_refused : SameOrRefused (say one) (say other)
+    same_or_refused e = ⊎_elim (λ f. inl (ap say f)) inr (admitted_alike e)
 
 -- ---- each kind of call
 
@@ -65,31 +65,31 @@ pub pixel_in_editions : (w : Way) (s : Setting) (n : ℕ) (p : Pixel)
     → SameOrRefused (meaning_of_pixel (pixel_answer w s p)) (meaning_of_pixel (pixel_answer w (in_edition n s) p))
 unfolding pixel_answer
 pixel_in_editions w s n p =
-    same-or-refused (λ v. meaning_of_pixel (converted_by w p v)) (call.Convert w) s n [] _ _ _ (pixel_refuses w s p) (pixel_refuses w (in_edition n s) p)
+    same_or_refused (λ v. meaning_of_pixel (converted_by w p v)) (call.Convert w) s n [] _ _ _ (pixel_refuses w s p) (pixel_refuses w (in_edition n s) p)
 
 pub source_in_editions : (s : Setting) (n : ℕ) (p : Pixel)
     → SameOrRefused (meaning_of_source (source_answer s p)) (meaning_of_source (source_answer (in_edition n s) p))
 unfolding source_answer
 source_in_editions s n p =
-    same-or-refused (λ v. meaning_of_source (source_by p v)) call.ImageCheck s n [] _ _ _ (source_refuses s p) (source_refuses (in_edition n s) p)
+    same_or_refused (λ v. meaning_of_source (source_by p v)) call.ImageCheck s n [] _ _ _ (source_refuses s p) (source_refuses (in_edition n s) p)
 
 pub reading_in_editions : (k : SampleKind) (s : Setting) (n v : ℕ)
     → SameOrRefused (meaning_of_reading (reading k s v)) (meaning_of_reading (reading k (in_edition n s) v))
 unfolding reading
 reading_in_editions k s n v =
-    same-or-refused (λ d. meaning_of_reading (read_by k v d)) call.Meter s n [] _ _ _ (reading_refuses k s v) (reading_refuses k (in_edition n s) v)
+    same_or_refused (λ d. meaning_of_reading (read_by k v d)) call.Meter s n [] _ _ _ (reading_refuses k s v) (reading_refuses k (in_edition n s) v)
 
 pub levels_in_editions : (s : Setting) (n : ℕ) (p : Pixel)
     → SameOrRefused (meaning_of_levels (levels_answer s p)) (meaning_of_levels (levels_answer (in_edition n s) p))
 unfolding levels_answer
 levels_in_editions s n p =
-    same-or-refused (λ v. meaning_of_levels (levels_read_by p v)) call.Meter s n [] _ _ _ (levels_refuses s p) (levels_refuses (in_edition n s) p)
+    same_or_refused (λ v. meaning_of_levels (levels_read_by p v)) call.Meter s n [] _ _ _ (levels_refuses s p) (levels_refuses (in_edition n s) p)
 
 pub image_in_editions : (s : Setting) (n : ℕ) (a : Picture)
     → SameOrRefused (meaning_of_image (image_answer s a)) (meaning_of_image (image_answer (in_edition n s) a))
 unfolding image_answer
 image_in_editions s n a =
-    same-or-refused (λ v. meaning_of_image (image_by v a)) call.ImageCheck s n _ _ _ _ (image_refuses s a) (image_refuses (in_edition n s) a)
+    same_or_refused (λ v. meaning_of_image (image_by v a)) call.ImageCheck s n _ _ _ _ (image_refuses s a) (image_refuses (in_edition n s) a)
 
 -- a frame, with what is in its three planes afterwards
 pub frame_in_editions : (w : Way) (s : Setting) (n : ℕ) (a : Picture) (b : Layout)
@@ -100,10 +100,10 @@ unfolding frame_answer out_plane
 frame_in_editions w s n a b e =
     let plane : ℕ → Admission → List ℕ = λ k v. plane_by v k w a b.stride (length_of k b) in
     ⊎_elim (λ f. inl (ap (λ v. meaning_of_frame (frame_by v)) f, (ap (plane 0) f, (ap (plane 1) f, ap (plane 2) f)))) inr
-    (admitted-alike (λ v. meaning_of_frame (frame_by v)) (call.Convert w) s n _ _ _ _ (frame_refuses w s a b) (frame_refuses w (in_edition n s) a b) e)
+    (admitted_alike (λ v. meaning_of_frame (frame_by v)) (call.Convert w) s n _ _ _ _ (frame_refuses w s a b) (frame_refuses w (in_edition n s) a b) e)
 
 pub judgement_in_editions : (w : Way) (s : Setting) (n : ℕ) (a b : Picture)
     → SameOrRefused (meaning_of_judgement (judgement w s a b)) (meaning_of_judgement (judgement w (in_edition n s) a b))
 unfolding judgement
 judgement_in_editions w s n a b =
-    same-or-refused (λ v. meaning_of_judgement (judge_by v w a b)) (call.Convert w) s n _ _ _ _ (judgement_refuses w s a b) (judgement_refuses w (in_edition n s) a b)
+    same_or_refused (λ v. meaning_of_judgement (judge_by v w a b)) (call.Convert w) s n _ _ _ _ (judgement_refuses w s a b) (judgement_refuses w (in_edition n s) a b)

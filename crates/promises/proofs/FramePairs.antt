@@ -21,13 +21,13 @@ use Rattle.setting.proofs.ReadyLaws.{ready, is_kept}
 use Rattle.plan.specs.Conversion.{convert}
 use Rattle.plan.proofs.ConversionTheorems.{trip, one_to_one, forward_inside}
 use Rattle.admit.specs.Rules.{picture_rules}
-use Rattle.admit.proofs.Accepted.{PictureAccepted, all_fit, pixels-inside, inside_exactly}
+use Rattle.admit.proofs.Accepted.{PictureAccepted, all_fit, pixels_inside, inside_exactly}
 use Rattle.rows.specs.Paint.{input_picture, output_picture, output_layout}
 use Rattle.rows.specs.declared.paint.Size.{Size}
 use Rattle.corkplover.specs.Meaning.{Meaning}
 use Rattle.promises.specs.Frames.{ConvertsFrame, ConvertsPlanes, HandedOn, SamePixels}
 use Rattle.promises.specs.Lossless.{Listed}
-use Rattle.promises.proofs.Frames.{frame-accepted}
+use Rattle.promises.proofs.Frames.{frame_accepted}
 use Rattle.promises.proofs.Lossless.{converts_too, taken}
 use Rattle.promises.proofs.Refusing.{accepted_none}
 
@@ -40,10 +40,10 @@ module _ (s : Setting) (l : Listed s) where
       let h' = f'.refuses.exactly.accepted e' in
       let x' : j < a'.height = omega (arith, x, high) in
       let y' : i < a'.width = omega (arith, y, wide) in
-      let image = taken s (frame-accepted Forward s a b h).setting l in
+      let image = taken s (frame_accepted Forward s a b h).setting l in
       one_to_one (served s) (pixel_of a j i) (pixel_of a' j i) (ready ImageCheck s image) (is_kept s image)
-      (pixels-inside (Convert Forward) s a (b ∷ []) (frame-accepted Forward s a b h) j i x y)
-      (pixels-inside (Convert Forward) s a' (b' ∷ []) (frame-accepted Forward s a' b' h') j i x' y')
+      (pixels_inside (Convert Forward) s a (b ∷ []) (frame_accepted Forward s a b h) j i x y)
+      (pixels_inside (Convert Forward) s a' (b' ∷ []) (frame_accepted Forward s a' b' h') j i x' y')
       (sym (f.inside e j i x y) ∙ same j i x y ∙ f'.inside e' j i x' y')
 
   -- the planes that a forward call left, handed to the reverse call with planes of layout d to write
@@ -57,18 +57,18 @@ module _ (s : Setting) (l : Listed s) where
       free = f.refuses.exactly.accepted e
 
       accepted : PictureAccepted (Convert Forward) s a (b ∷ [])
-      accepted = frame-accepted Forward s a b free
+      accepted = frame_accepted Forward s a b free
 
       image : first (setting_rules ImageCheck s) ≡ Passed
       image = taken s accepted.setting l
 
-      sent-inside : EveryPixel (InsideYCC (depths s)) sent
-      sent-inside j i x y =
+      sent_inside : EveryPixel (InsideYCC (depths s)) sent
+      sent_inside j i x y =
           subst (InsideYCC (depths s)) (sym (f.inside e j i x y))
-          (forward_inside (served s) (pixel_of a j i) (ready ImageCheck s image) (pixels-inside (Convert Forward) s a (b ∷ []) accepted j i x y))
+          (forward_inside (served s) (pixel_of a j i) (ready ImageCheck s image) (pixels_inside (Convert Forward) s a (b ∷ []) accepted j i x y))
 
-      sent-sizes : first (size_rules a.width a.height (layout_of sent ∷ d ∷ [])) ≡ Passed
-      sent-sizes =
+      sent_sizes : first (size_rules a.width a.height (layout_of sent ∷ d ∷ [])) ≡ Passed
+      sent_sizes =
           let own = (all_fit (Convert Forward) s a (b ∷ []) accepted).1.0 in
           (sizes_pass a.width a.height (layout_of sent ∷ d ∷ [])).1 (
             record {
@@ -86,22 +86,22 @@ module _ (s : Setting) (l : Listed s) where
             ),
           )
 
-      sent-free : NoneApplies (picture_rules (Convert Reverse) s sent (d ∷ []))
-      sent-free =
+      sent_free : NoneApplies (picture_rules (Convert Reverse) s sent (d ∷ []))
+      sent_free =
           accepted_none (Convert Reverse) s _ _
-          (record { setting = converts_too Reverse s image; sizes_pass = sent-sizes; samples = (inside_exactly Ycc (depths s) sent).1 sent-inside })
+          (record { setting = converts_too Reverse s image; sizes_pass = sent_sizes; samples = (inside_exactly Ycc (depths s) sent).1 sent_inside })
 
       -- are accepted, and give the picture again, pixel for pixel
       comes_back : {n : Meaning} {c : Picture} → ConvertsFrame Reverse s sent d n c
           → (n.number ≡ 0) × SamePixels a c
       comes_back g =
-          let r = g.refuses.exactly.free sent-free in (
+          let r = g.refuses.exactly.free sent_free in (
             r,
             λ j i x y.
                 sym
                 (g.inside r j i x y
                 ∙ ap (convert Reverse (served s)) (f.inside e j i x y)
-                ∙ trip (served s) (pixel_of a j i) (ready ImageCheck s image) (is_kept s image) (pixels-inside (Convert Forward) s a (b ∷ []) accepted j i x y)),
+                ∙ trip (served s) (pixel_of a j i) (ready ImageCheck s image) (is_kept s image) (pixels_inside (Convert Forward) s a (b ∷ []) accepted j i x y)),
           )
 
   -- the same by the calls' parameters

@@ -49,26 +49,26 @@ module _ (w : Way) (s : Setting) (a : Picture) (b : Layout) where
     let_in : frame_admission w s a b ≡ admission.Admitted (served s)
     let_in = none_admitted (call.Convert w) s _ _ h
 
-    pub frame-accepted : PictureAccepted (call.Convert w) s a (b ∷ [])
-    frame-accepted = none_accepted (call.Convert w) s _ _ h
+    pub frame_accepted : PictureAccepted (call.Convert w) s a (b ∷ [])
+    frame_accepted = none_accepted (call.Convert w) s _ _ h
 
     plane_is : (k : ℕ) → out_plane k w s a b ≡ converted_plane k w (served s) a b.stride (length_of k b)
     plane_is k = plane_done w s a b (served s) let_in k
 
     fit : Fits a.width a.height b
-    fit = (all_fit (call.Convert w) s a (b ∷ []) frame-accepted).1.0
+    fit = (all_fit (call.Convert w) s a (b ∷ []) frame_accepted).1.0
 
     -- each picture element is the converted sample of its row and column
-    sample-is : (k j i : ℕ) → needed a.width a.height b.stride ≤ length_of k b → j < a.height → i < a.width
+    sample_is : (k j i : ℕ) → needed a.width a.height b.stride ≤ length_of k b → j < a.height → i < a.width
         → sample_at (out_plane k w s a b) b.stride j i ≡ sample_of k (convert w (served s) (pixel_of a j i))
-    sample-is k j i l x y =
+    sample_is k j i l x y =
         ap (λ p. sample_at p b.stride j i) (plane_is k)
         ∙ plane_inside (length_of k b) a.width a.height b.stride _ j i x y fit.sized.stride_within.from_least
         (omega (arith, index_inside a.width a.height b.stride j i x y, l))
 
     -- what lies outside the picture is 0, wherever in the plane it is
-    outside-zero : (k n : ℕ) → n < length_of k b → Outside a.width a.height b.stride n → get_or (out_plane k w s a b) n 0 ≡ 0
-    outside-zero k n l o = ap (λ p. get_or p n 0) (plane_is k) ∙ plane_outside (length_of k b) a.width a.height b.stride _ n l o
+    outside_zero : (k n : ℕ) → n < length_of k b → Outside a.width a.height b.stride n → get_or (out_plane k w s a b) n 0 ≡ 0
+    outside_zero k n l o = ap (λ p. get_or p n 0) (plane_is k) ∙ plane_outside (length_of k b) a.width a.height b.stride _ n l o
 
   -- the picture in the planes that the call leaves
   abbrev left : Picture
@@ -91,11 +91,11 @@ module _ (w : Way) (s : Setting) (a : Picture) (b : Layout) where
             let h = r.exactly.accepted e in
             let long = (fit h).long in λ t.
             record {
-              p0 = sample-is h 0 j i long.long0 x y t;
-              p1 = sample-is h 1 j i long.long1 x y t;
-              p2 = sample-is h 2 j i long.long2 x y t;
+              p0 = sample_is h 0 j i long.long0 x y t;
+              p1 = sample_is h 1 j i long.long1 x y t;
+              p2 = sample_is h 2 j i long.long2 x y t;
             };
-        outside = λ e k n l h o. ap (λ p. get_or p n 0) (left_plane k l) ∙ outside-zero (r.exactly.accepted e) k n h o;
+        outside = λ e k n l h o. ap (λ p. get_or p n 0) (left_plane k l) ∙ outside_zero (r.exactly.accepted e) k n h o;
       }
 
   -- and so of every call that has this answer and leaves these planes

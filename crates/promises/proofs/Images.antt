@@ -30,7 +30,7 @@ use Rattle.plan.specs.Conversion.{convert}
 use Rattle.plan.specs.Source.{HasSource, has_source}
 use Rattle.plan.proofs.ConversionTheorems.{reverse_inside, same_pixel_lem}
 use Rattle.admit.specs.Rules.{picture_rules}
-use Rattle.admit.proofs.Accepted.{PictureAccepted, pixels-inside}
+use Rattle.admit.proofs.Accepted.{PictureAccepted, pixels_inside}
 use Rattle.frame.specs.Frame.{mapped_sample, mapped_plane}
 use Rattle.image_check.specs.Image.{fails, first_failing, answer_found, image_by, image_answer}
 use Rattle.corkplover.specs.Meaning.{Meaning, meaning_of_image}
@@ -64,7 +64,7 @@ module _ (s : Setting) (a : Picture) (h : NoneApplies (picture_rules ImageCheck 
   searched = ap (λ v. meaning_of_image (image_by v a)) (none_admitted ImageCheck s _ _ h)
 
   within : (j i : ℕ) → j < a.height → i < a.width → InsideYCC (depths s) (pixel_of a j i)
-  within = pixels-inside ImageCheck s a [] k
+  within = pixels_inside ImageCheck s a [] k
 
   -- the test of a pixel, and the claim
   exactly : (j i : ℕ) → j < a.height → i < a.width → (has_source (served s) (pixel_of a j i) ≡ true) ↔ HasSource (served s) (pixel_of a j i)

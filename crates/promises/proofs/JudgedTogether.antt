@@ -12,7 +12,7 @@ use Rattle.promises.specs.Frames.{Alike}
 use Rattle.promises.specs.Judging.{OwnAgrees}
 use Rattle.promises.proofs.Judging.{own_planes_agree}
 use Rattle.promises.proofs.Kept.{forward_frame_keeps, reverse_frame_keeps, judge_forward_keeps, judge_reverse_keeps}
-use Rattle.promises.proofs.Remains.{same-judgement}
+use Rattle.promises.proofs.Remains.{same_judgement}
 
 pub judge_forward_no_padding : (κs κs' s size r g b y cb cr r' g' b' y' cb' cr' x x' t t' : _)
     → judge-forward.Post κs (s, (size, (r, (g, (b, (y, (cb, (cr, tt)))))))) x t
@@ -21,7 +21,7 @@ pub judge_forward_no_padding : (κs κs' s size r g b y cb cr r' g' b' y' cb' cr
     → Alike size.width size.height size.output_stride y.now cb.now cr.now y'.now cb'.now cr'.now → x ≡ x'
 judge_forward_no_padding κs κs' s size r g b y cb cr r' g' b' y' cb' cr' x x' t t' h h' alike alike' =
     judge_forward_answers κs s size r g b y cb cr x t h
-    ∙ same-judgement size.width size.height size.input_stride size.output_stride _ _ _ _ _ _ _ _ _ _ _ _ alike alike' Forward s
+    ∙ same_judgement size.width size.height size.input_stride size.output_stride _ _ _ _ _ _ _ _ _ _ _ _ alike alike' Forward s
     ∙ sym (judge_forward_answers κs' s size r' g' b' y' cb' cr' x' t' h')
 
 -- the planes that forward_frame left, handed to judge_forward with their source
@@ -41,7 +41,7 @@ pub judge_reverse_no_padding : (κs κs' s size y cb cr r g b y' cb' cr' r' g' b
     → Alike size.width size.height size.output_stride r.now g.now b.now r'.now g'.now b'.now → x ≡ x'
 judge_reverse_no_padding κs κs' s size y cb cr r g b y' cb' cr' r' g' b' x x' t t' h h' alike alike' =
     judge_reverse_answers κs s size y cb cr r g b x t h
-    ∙ same-judgement size.width size.height size.input_stride size.output_stride _ _ _ _ _ _ _ _ _ _ _ _ alike alike' Reverse s
+    ∙ same_judgement size.width size.height size.input_stride size.output_stride _ _ _ _ _ _ _ _ _ _ _ _ alike alike' Reverse s
     ∙ sym (judge_reverse_answers κs' s size y' cb' cr' r' g' b' x' t' h')
 
 -- the planes that reverse_frame left, handed to judge_reverse with their source

@@ -21,7 +21,7 @@ use Rattle.promises.specs.Judging.{OwnAgrees}
 use Rattle.promises.proofs.Judging.{own_planes_agree}
 use Rattle.promises.proofs.KeptExports.{corkplover_forward_frame_keeps, corkplover_reverse_frame_keeps, corkplover_judge_forward_keeps, corkplover_judge_reverse_keeps}
 use Rattle.promises.proofs.Once.{once_both}
-use Rattle.promises.proofs.Remains.{same-judgement}
+use Rattle.promises.proofs.Remains.{same_judgement}
 
 -- either way
 no_padding : (w : Way) (s t : Setting) (z : Size) (a0 a1 a2 b0 b1 b2 q0 q1 q2 p0 p1 p2 : List ℕ) {x x' n n' : ℕ} → JudgementAfter w s z a0 a1 a2 b0 b1 b2 x n
@@ -30,7 +30,7 @@ no_padding : (w : Way) (s t : Setting) (z : Size) (a0 a1 a2 b0 b1 b2 q0 q1 q2 p0
 no_padding w s t z a0 a1 a2 b0 b1 b2 q0 q1 q2 p0 p1 p2 h h' e alike alike' =
     let same =
     ap (λ u. judgement w u (input_picture z a0 a1 a2) (output_picture z b0 b1 b2)) e
-    ∙ same-judgement z.width z.height z.input_stride z.output_stride a0 a1 a2 q0 q1 q2 b0 b1 b2 p0 p1 p2 alike alike' w t in
+    ∙ same_judgement z.width z.height z.input_stride z.output_stride a0 a1 a2 q0 q1 q2 b0 b1 b2 p0 p1 p2 alike alike' w t in
     once_both (h.0 ∙ ap packed_judgement same, h.1 ∙ ap wrong_in same) h'
 
 pub corkplover_judge_forward_no_padding : (κs κs' word word' w h from to r g b y cb cr wrong r' g' b' y' cb' cr' wrong' x x' t t' : _)

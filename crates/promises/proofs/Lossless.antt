@@ -62,9 +62,9 @@ module _ (s : Setting) (e : first (setting_rules ImageCheck s) ≡ Passed) where
 
   -- what the rules have left of a matrix
   record Left (m : Matrix) : Type 0 where
-    not-reserved : eqb (standing m) 1 ≡ false
-    not-unspecified : eqb (standing m) 2 ≡ false
-    not-unserved : eqb (standing m) 3 ≡ false
+    not_reserved : eqb (standing m) 1 ≡ false
+    not_unspecified : eqb (standing m) 2 ≡ false
+    not_unserved : eqb (standing m) 3 ≡ false
     kept : keeps (entry_of m).lossless d ≡ true
     bound : bonded (entry_of m).bond d s.rgb_full s.ycc_full ≡ true
     most : d.chroma.0 ≤ d.luma.0 + (entry_of m).chroma_bits
@@ -75,9 +75,9 @@ module _ (s : Setting) (e : first (setting_rules ImageCheck s) ≡ Passed) where
       let u = passed_over _ _ t.1 in
       let v = passed_over _ _ u.1 in
       record {
-        not-reserved = t.0;
-        not-unspecified = u.0;
-        not-unserved = v.0;
+        not_reserved = t.0;
+        not_unspecified = u.0;
+        not_unserved = v.0;
         kept = rule_11 ImageCheck s e;
         bound = bonded_so ImageCheck s e;
         most = (deeper ImageCheck s e).1;
@@ -107,13 +107,13 @@ module _ (s : Setting) (e : first (setting_rules ImageCheck s) ≡ Passed) where
   no_lossy x v q l = absurd (true≢false (sym (subst (λ k. keeps k d ≡ true) v l.kept)))
 
   no_reserved : On matrix.Reserved
-  no_reserved q l = absurd (true≢false l.not-reserved)
+  no_reserved q l = absurd (true≢false l.not_reserved)
 
   no_unspecified : On matrix.Unspecified
-  no_unspecified q l = absurd (true≢false l.not-unspecified)
+  no_unspecified q l = absurd (true≢false l.not_unspecified)
 
   no_unserved : On matrix.Unserved
-  no_unserved q l = absurd (true≢false l.not-unserved)
+  no_unserved q l = absurd (true≢false l.not_unserved)
 
   each : Each On rows
   each = search (on_places, on_r, on_re, on_ro, no_lossy, no_reserved, no_unspecified, no_unserved) depth 60

@@ -54,10 +54,10 @@ module _ (c : Call) (s : Setting) (p : Pixel) (h : NoneApplies (pixel_rules c s 
 pub pixel_free : (c : Call) (s : Setting) (p : Pixel) → first (setting_rules c s) ≡ Passed → InsideOf (reads c) (depths s) p → NoneApplies (pixel_rules c s p)
 unfolding first
 pixel_free c s p e h =
-    accepted_none c s [] (beyond_depth (reads c) (depths s) (pixel_picture p)) (record { setting = e; sizes_pass = refl; samples = no-bad })
+    accepted_none c s [] (beyond_depth (reads c) (depths s) (pixel_picture p)) (record { setting = e; sizes_pass = refl; samples = no_bad })
   where
-    no-bad : beyond_depth (reads c) (depths s) (pixel_picture p) ≡ Nothing
-    no-bad =
+    no_bad : beyond_depth (reads c) (depths s) (pixel_picture p) ≡ Nothing
+    no_bad =
         (inside_exactly (reads c) (depths s) (pixel_picture p)).1
         (λ j i a b.
         let ej : j ≡ 0 = omega arith in

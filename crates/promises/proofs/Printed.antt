@@ -8,7 +8,7 @@ use Rattle.refusal.specs.declared.Check.TheVariants.{Passed}
 use Rattle.levels.specs.Conversion.{LevelDepths, luma_forward, luma_reverse}
 use Rattle.levels.specs.Equations.{all_parts, weights, luma_matrix}
 use Rattle.levels.proofs.Bounds.{shares}
-use Rattle.levels.proofs.Pixels.{luma-forward, luma-reverse}
+use Rattle.levels.proofs.Pixels.{luma_forward_lem, luma_reverse_lem}
 use Rattle.codes.specs.Matrix.{luma_entry}
 use Rattle.codes.specs.Standing.{entry_of}
 use Rattle.codes.specs.declared.matrix.Formulas.TheVariants.{Levels}
@@ -39,11 +39,11 @@ module _ (s : Setting) (kr kb : ℕ) (h : kr + kb < all_parts) (e : matrix_in s 
   unfolding convert
   printed_forward q p =
       ap (λ f. convert_by Forward f (served s) p) formulas_are
-      ∙ luma-forward (level_setting (served s)) (depths_served_lem Forward q) p (weights kr kb) (shares kr kb h)
+      ∙ luma_forward_lem (level_setting (served s)) (depths_served_lem Forward q) p (weights kr kb) (shares kr kb h)
 
   pub printed_reverse : first (setting_rules (Convert Reverse) s) ≡ Passed → (p : Pixel)
       → convert Reverse (served s) p ≡ luma_reverse (weights kr kb) (level_setting (served s)) p
   unfolding convert
   printed_reverse q p =
       ap (λ f. convert_by Reverse f (served s) p) formulas_are
-      ∙ luma-reverse (level_setting (served s)) (depths_served_lem Reverse q) p (weights kr kb) (shares kr kb h)
+      ∙ luma_reverse_lem (level_setting (served s)) (depths_served_lem Reverse q) p (weights kr kb) (shares kr kb h)

@@ -36,7 +36,7 @@ use Rattle.plan.specs.Conversion.{convert}
 use Rattle.plan.specs.Source.{has_source}
 use Rattle.admit.specs.Rules.{call_rules, call_admission, picture_rules, pixel_rules, sample_rules, pixel_picture}
 use Rattle.admit.proofs.Accepted.{Accepted, accepted_of, of_accepted}
-use Rattle.admit.proofs.AdmitLaws.{admitted_passed, each-answer}
+use Rattle.admit.proofs.AdmitLaws.{admitted_passed, each_answer}
 use Rattle.frame.specs.Frame.{frame_by, frame_answer}
 use Rattle.image_check.specs.Image.{first_failing, answer_found, image_by, image_answer}
 use Rattle.judge.specs.Judge.{first_wrong, count_wrong, verdict, judge_by, judgement}
@@ -117,15 +117,15 @@ module _ (say : Admission → Meaning) (unrefused : (x : Served) → Unrefused (
     free : (x : Served) → (say (admission.Admitted x)).number ≡ 0
     free x = (unrefused x).0
 
-    by-check : (rules : List Rule) (x : Served) → Numbered rules → (c : Check) → first rules ≡ c → Exactly (say (admitted c x)) rules
-    by-check rules x h check.Passed e =
+    by_check : (rules : List Rule) (x : Served) → Numbered rules → (c : Check) → first rules ≡ c → Exactly (say (admitted c x)) rules
+    by_check rules x h check.Passed e =
         record {
           given = λ n. absurd (n (free x));
           only = λ y f. absurd (never_both y (sym e ∙ (refused_exactly rules y).1 f));
           accepted = λ n. (passed_exactly rules).0 e;
           free = λ n. free x;
         }
-    by-check rules x h (check.Refused r) e =
+    by_check rules x h (check.Refused r) e =
         record {
           given = λ n. record { refusal = r; is_first = (refused_exactly rules r).0 e; is = refuses r };
           only = λ y f. refuses r ∙ ap meaning_refusal (same_refusal (sym e ∙ (refused_exactly rules y).1 f));
@@ -138,13 +138,13 @@ module _ (say : Admission → Meaning) (unrefused : (x : Served) → Unrefused (
       where
         answered : Exactly (say (call_admission c s sizes bad)) (call_rules c s sizes bad)
         unfolding call_admission
-        answered = by-check (call_rules c s sizes bad) (served s) (all_numbered c s sizes bad (numbered_others sizes h)) _ refl
+        answered = by_check (call_rules c s sizes bad) (served s) (all_numbered c s sizes bad (numbered_others sizes h)) _ refl
 
         abbrev Names : Admission → Type 0
         Names v = NamesSample Is (say v)
 
-        other-names : (r : Refusal) → Other r → Names (admission.Refused r)
-        other-names r o =
+        other_names : (r : Refusal) → Other r → Names (admission.Refused r)
+        other_names r o =
             subst (NamesSample Is) (sym (refuses r))
             (record {
               ten = λ t. absurd (eqb-false _ _ o.not_10 t);
@@ -156,8 +156,8 @@ module _ (say : Admission → Meaning) (unrefused : (x : Served) → Unrefused (
         named : Names (call_admission c s sizes bad)
         named =
             let e = free (served s) in
-            each-answer Names c s sizes bad (λ r f. other-names r (first_has Other (setting_rules c s) r (setting_others c s) f))
-            (λ r f. other-names r (first_has Other sizes r h f))
+            each_answer Names c s sizes bad (λ r f. other_names r (first_has Other (setting_rules c s) r (setting_others c s) f))
+            (λ r f. other_names r (first_has Other sizes r h f))
             (λ f place v g.
             subst (NamesSample Is) (sym (refuses _))
             (record {
@@ -173,8 +173,8 @@ module _ (say : Admission → Meaning) (unrefused : (x : Served) → Unrefused (
               alone = λ t. absurd (t e);
             })
 
-        call-refuses : Refuses (call_rules c s sizes bad) Is (say (call_admission c s sizes bad))
-        call-refuses = record { exactly = answered; names = named }
+        call_refuses : Refuses (call_rules c s sizes bad) Is (say (call_admission c s sizes bad))
+        call_refuses = record { exactly = answered; names = named }
 
 -- ---- each kind of call
 
@@ -196,43 +196,43 @@ pub pixel_refuses : (w : Way) (s : Setting) (p : Pixel)
     → Refuses (pixel_rules (call.Convert w) s p) (BadPixel (input_of w) s p) (meaning_of_pixel (pixel_answer w s p))
 unfolding pixel_answer
 pixel_refuses w s p =
-    call-refuses (λ v. meaning_of_pixel (converted_by w p v)) (λ x. (refl, refl)) (λ r. refl) (call.Convert w) s [] tt _ _
+    call_refuses (λ v. meaning_of_pixel (converted_by w p v)) (λ x. (refl, refl)) (λ r. refl) (call.Convert w) s [] tt _ _
     (picture_beyond (input_of w) s (pixel_picture p))
 
 pub source_refuses : (s : Setting) (p : Pixel) → Refuses (pixel_rules call.ImageCheck s p) (BadPixel Ycc s p) (meaning_of_source (source_answer s p))
 unfolding source_answer
 source_refuses s p =
-    call-refuses (λ v. meaning_of_source (source_by p v)) (λ x. picked_free (has_source x p)) (λ r. refl) call.ImageCheck s [] tt _ _
+    call_refuses (λ v. meaning_of_source (source_by p v)) (λ x. picked_free (has_source x p)) (λ r. refl) call.ImageCheck s [] tt _ _
     (picture_beyond Ycc s (pixel_picture p))
 
 pub reading_refuses : (k : SampleKind) (s : Setting) (v : ℕ) → Refuses (sample_rules k s v) (BadSampleOf k s v) (meaning_of_reading (reading k s v))
 unfolding reading
 reading_refuses k s v =
-    call-refuses (λ d. meaning_of_reading (read_by k v d)) (λ x. (refl, refl)) (λ r. refl) call.Meter s [] tt _ _
+    call_refuses (λ d. meaning_of_reading (read_by k v d)) (λ x. (refl, refl)) (λ r. refl) call.Meter s [] tt _ _
     (sample_beyond k s v)
 
 pub levels_refuses : (s : Setting) (p : Pixel) → Refuses (pixel_rules call.Meter s p) (BadPixel Ycc s p) (meaning_of_levels (levels_answer s p))
 unfolding levels_answer
 levels_refuses s p =
-    call-refuses (λ v. meaning_of_levels (levels_read_by p v)) (λ x. (refl, refl)) (λ r. refl) call.Meter s [] tt _ _
+    call_refuses (λ v. meaning_of_levels (levels_read_by p v)) (λ x. (refl, refl)) (λ r. refl) call.Meter s [] tt _ _
     (picture_beyond Ycc s (pixel_picture p))
 
 pub frame_refuses : (w : Way) (s : Setting) (a : Picture) (b : Layout)
     → Refuses (picture_rules (call.Convert w) s a (b ∷ [])) (BadIn (input_of w) s a) (meaning_of_frame (frame_answer w s a b))
 unfolding frame_answer
 frame_refuses w s a b =
-    call-refuses (λ v. meaning_of_frame (frame_by v)) (λ x. (refl, refl)) (λ r. refl) (call.Convert w) s (size_rules a.width a.height (layout_of a ∷ b ∷ []))
+    call_refuses (λ v. meaning_of_frame (frame_by v)) (λ x. (refl, refl)) (λ r. refl) (call.Convert w) s (size_rules a.width a.height (layout_of a ∷ b ∷ []))
     (size_others a.width a.height (layout_of a ∷ b ∷ [])) _ _ (picture_beyond (input_of w) s a)
 
 pub image_refuses : (s : Setting) (a : Picture) → Refuses (picture_rules call.ImageCheck s a []) (BadIn Ycc s a) (meaning_of_image (image_answer s a))
 unfolding image_answer
 image_refuses s a =
-    call-refuses (λ v. meaning_of_image (image_by v a)) (λ x. found_free (first_failing (has_source x) a)) (λ r. refl) call.ImageCheck s
+    call_refuses (λ v. meaning_of_image (image_by v a)) (λ x. found_free (first_failing (has_source x) a)) (λ r. refl) call.ImageCheck s
     (size_rules a.width a.height (layout_of a ∷ [])) (size_others a.width a.height (layout_of a ∷ [])) _ _ (picture_beyond Ycc s a)
 
 pub judgement_refuses : (w : Way) (s : Setting) (a b : Picture)
     → Refuses (picture_rules (call.Convert w) s a (layout_of b ∷ [])) (BadIn (input_of w) s a) (meaning_of_judgement (judgement w s a b))
 unfolding judgement
 judgement_refuses w s a b =
-    call-refuses (λ v. meaning_of_judgement (judge_by v w a b)) (λ x. verdict_free (first_wrong (convert w x) a b) (count_wrong (convert w x) a b)) (λ r. refl) (call.Convert w) s
+    call_refuses (λ v. meaning_of_judgement (judge_by v w a b)) (λ x. verdict_free (first_wrong (convert w x) a b) (count_wrong (convert w x) a b)) (λ r. refl) (call.Convert w) s
     (size_rules a.width a.height (layout_of a ∷ layout_of b ∷ [])) (size_others a.width a.height (layout_of a ∷ layout_of b ∷ [])) _ _ (picture_beyond (input_of w) s a)

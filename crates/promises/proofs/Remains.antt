@@ -10,7 +10,7 @@ use Rattle.planes.specs.Sizes.{layout}
 use Rattle.planes.specs.declared.size.Layout.{Layout}
 use Rattle.planes.proofs.PlaneTheorems.{plane_same, pixel_same}
 use Rattle.scan.proofs.Searches.{first_place_same}
-use Rattle.scan.proofs.SearchTheorems.{bad-found-same}
+use Rattle.scan.proofs.SearchTheorems.{bad_found_same}
 use Rattle.setting.specs.declared.Call.{Call}
 use Rattle.setting.specs.declared.Call.TheVariants as call
 use Rattle.setting.specs.declared.Setting.{Setting}
@@ -45,7 +45,7 @@ module _ (width height stride : ℕ) (a0 a1 a2 q0 q1 q2 : List ℕ) (e : Alike w
 
   same_admission : (c : Call) (s : Setting) (others : List Layout) → picture_admission c s a others ≡ picture_admission c s q others
   same_admission c s others =
-      rw (e.first.long, e.second.long, e.third.long, bad-found-same a q0 q1 q2 e.first.same e.second.same e.third.same _)
+      rw (e.first.long, e.second.long, e.third.long, bad_found_same a q0 q1 q2 e.first.same e.second.same e.third.same _)
 
   same_answer : (w : Way) (s : Setting) (b : Layout) → frame_answer w s a b ≡ frame_answer w s q b
   unfolding frame_answer
@@ -92,16 +92,16 @@ module _ (width height stride to : ℕ) (a0 a1 a2 q0 q1 q2 b0 b1 b2 p0 p1 p2 : L
     wrong_same f j i h l =
         λ t. differ (f (pixels width height stride a0 a1 a2 q0 q1 q2 e j i h l t)) (pixels width height to b0 b1 b2 p0 p1 p2 g j i h l t)
 
-    judged-by-same : (w : Way) (v : Admission) → judge_by v w source claimed ≡ judge_by v w source' claimed'
-    judged-by-same w (admission.Admitted x) =
+    judged_by_same : (w : Way) (v : Admission) → judge_by v w source claimed ≡ judge_by v w source' claimed'
+    judged_by_same w (admission.Admitted x) =
         let same = wrong_same (convert w x) in
         λ t. verdict (first_place_same _ _ 0 width height same t) (places_same _ _ width height same t)
-    judged-by-same w (admission.Refused r) = refl
+    judged_by_same w (admission.Refused r) = refl
 
-    pub same-judgement : (w : Way) (s : Setting) → judgement w s source claimed ≡ judgement w s source' claimed'
+    pub same_judgement : (w : Way) (s : Setting) → judgement w s source claimed ≡ judgement w s source' claimed'
     unfolding judgement
-    same-judgement w s =
-        judged-by-same w (frame_admission w s source (layout_of claimed))
+    same_judgement w s =
+        judged_by_same w (frame_admission w s source (layout_of claimed))
         ∙ ap (λ v. judge_by v w source' claimed')
         (same_admission width height stride a0 a1 a2 q0 q1 q2 e (call.Convert w) s (layout_of claimed ∷ [])
         ∙ (λ t. frame_admission w s source' (layout to (g.first.long t) (g.second.long t) (g.third.long t))))

@@ -44,7 +44,7 @@ use Rattle.plan.specs.Source.{has_source}
 use Rattle.plan.proofs.ConversionTheorems.{forward_inside, reverse_inside}
 use Rattle.admit.specs.Rules.{call_admission, beyond_depth, pixel_picture, bad_one}
 use Rattle.admit.proofs.Accepted.{Accepted, accepted_of, inside_exactly}
-use Rattle.admit.proofs.AdmitLaws.{each-answer}
+use Rattle.admit.proofs.AdmitLaws.{each_answer}
 use Rattle.frame.specs.Frame.{frame_by, frame_answer}
 use Rattle.image_check.specs.Image.{fails, first_failing, answer_found, image_by, image_answer}
 use Rattle.judge.specs.Judge.{is_wrong, first_wrong, count_wrong, verdict, judge_by, judgement}
@@ -103,9 +103,9 @@ module _ (heard say : Admission → Meaning) (c : Call) (s : Setting) (sizes : L
     abbrev Out : Admission → Type 0
     Out v = (v ≡ admission.Admitted (served s) → heard v ≡ say v) → heard v ≡ say v
 
-    call-out : heard (call_admission c s sizes bad) ≡ say (call_admission c s sizes bad)
-    call-out =
-        each-answer Out c s sizes bad (λ r e f. refused r (other_small r (first_has Other (setting_rules c s) r (setting_others c s) e)))
+    call_out : heard (call_admission c s sizes bad) ≡ say (call_admission c s sizes bad)
+    call_out =
+        each_answer Out c s sizes bad (λ r e f. refused r (other_small r (first_has Other (setting_rules c s) r (setting_others c s) e)))
         (λ r e f. refused r (other_small r (first_has Other sizes r others e))) (λ e place v g f. refused (bad_at place v) (fit e place v g)) (λ f. f refl)
         (λ e. rw e (served-out (accepted_of c s sizes bad (served s) e).0))
 
@@ -143,14 +143,14 @@ pixel_out way.Reverse s p a =
 pub pixel_unpacked : (w : Way) (s : Setting) (p : Pixel) → meaning_in_pixel (packed_pixel (pixel_answer w s p)) ≡ meaning_of_pixel (pixel_answer w s p)
 unfolding pixel_answer
 pixel_unpacked w s p =
-    call-out (λ v. meaning_in_pixel (packed_pixel (converted_by w p v))) (λ v. meaning_of_pixel (converted_by w p v)) (call.Convert w) s [] tt _
+    call_out (λ v. meaning_in_pixel (packed_pixel (converted_by w p v))) (λ v. meaning_of_pixel (converted_by w p v)) (call.Convert w) s [] tt _
     (λ r. refusal_out r _) (λ z. bad_pixel (input_of w) s p) (pixel_out w s p)
 
 pub levels_unpacked : (s : Setting) (p : Pixel)
     → let l = levels_answer s p in meaning_in_levels (packed_levels l) (y_in l) (cb_in l) (cr_in l) ≡ meaning_of_levels l
 unfolding levels_answer
 levels_unpacked s p =
-    call-out (λ v. let l = levels_read_by p v in meaning_in_levels (packed_levels l) (y_in l) (cb_in l) (cr_in l)) (λ v. meaning_of_levels (levels_read_by p v))
+    call_out (λ v. let l = levels_read_by p v in meaning_in_levels (packed_levels l) (y_in l) (cb_in l) (cr_in l)) (λ v. meaning_of_levels (levels_read_by p v))
     call.Meter s [] tt _ (λ r. refusal_out r _) (λ z. bad_pixel Ycc s p) (λ a. refl)
 
 kind_small : (k : SampleKind) → plane_number k < 256
@@ -167,7 +167,7 @@ pub reading_unpacked : (k : SampleKind) (s : Setting) (v : ℕ)
     → let l = reading k s v in meaning_in_reading (packed_reading l) (level_in l) ≡ meaning_of_reading l
 unfolding reading
 reading_unpacked k s v =
-    call-out (λ d. let l = read_by k v d in meaning_in_reading (packed_reading l) (level_in l)) (λ d. meaning_of_reading (read_by k v d)) call.Meter s [] tt _
+    call_out (λ d. let l = read_by k v d in meaning_in_reading (packed_reading l) (level_in l)) (λ d. meaning_of_reading (read_by k v d)) call.Meter s [] tt _
     (λ r. refusal_out r _) (λ z. bad_one_lem k s v) (λ a. refl)
 
 -- ---- calls on a picture
@@ -183,7 +183,7 @@ bad_in side s a others z place v e =
 pub frame_unpacked : (w : Way) (s : Setting) (a : Picture) (b : Layout) → meaning_in_frame (packed_frame (frame_answer w s a b)) ≡ meaning_of_frame (frame_answer w s a b)
 unfolding frame_answer
 frame_unpacked w s a b =
-    call-out (λ v. meaning_in_frame (packed_frame (frame_by v))) (λ v. meaning_of_frame (frame_by v)) (call.Convert w) s _
+    call_out (λ v. meaning_in_frame (packed_frame (frame_by v))) (λ v. meaning_of_frame (frame_by v)) (call.Convert w) s _
     (size_others a.width a.height (layout_of a ∷ b ∷ [])) _ (λ r. refusal_out r _) (bad_in (input_of w) s a (b ∷ [])) (λ k. refl)
 
 -- a row and a column of a picture of a served size, beside a word
@@ -207,7 +207,7 @@ word_out test a found.Nothing e h w = refl
 pub image_unpacked : (s : Setting) (a : Picture) → meaning_in_image (packed_image (image_answer s a)) ≡ meaning_of_image (image_answer s a)
 unfolding image_answer
 image_unpacked s a =
-    call-out (λ v. meaning_in_image (packed_image (image_by v a))) (λ v. meaning_of_image (image_by v a)) call.ImageCheck s _
+    call_out (λ v. meaning_in_image (packed_image (image_by v a))) (λ v. meaning_of_image (image_by v a)) call.ImageCheck s _
     (size_others a.width a.height (layout_of a ∷ [])) _ (λ r. refusal_out r _) (bad_in Ycc s a [])
     (λ k.
     let sized = (sizes.fits _ _ _ k.sizes_pass).0.sized in
@@ -223,7 +223,7 @@ pub judgement_unpacked : (w : Way) (s : Setting) (a b : Picture)
     → let r = judgement w s a b in meaning_in_judgement (packed_judgement r) (wrong_in r) ≡ meaning_of_judgement r
 unfolding judgement
 judgement_unpacked w s a b =
-    call-out (λ v. let r = judge_by v w a b in meaning_in_judgement (packed_judgement r) (wrong_in r)) (λ v. meaning_of_judgement (judge_by v w a b)) (call.Convert w) s _
+    call_out (λ v. let r = judge_by v w a b in meaning_in_judgement (packed_judgement r) (wrong_in r)) (λ v. meaning_of_judgement (judge_by v w a b)) (call.Convert w) s _
     (size_others a.width a.height (layout_of a ∷ layout_of b ∷ [])) _ (λ r. refusal_out r _) (bad_in (input_of w) s a (layout_of b ∷ []))
     (λ k.
     let sized = (sizes.fits _ _ _ k.sizes_pass).0.sized in

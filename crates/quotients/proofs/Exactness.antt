@@ -33,12 +33,12 @@ numerator t e h start n mid m a b d even runs = let more = ap (λ i. t * i) d in
 -- less than half a step past the start, for what is missing is less than that much of the rest
 near_start : (rest miss e start n : ℕ) → 2 * miss ≤ rest → start ≤ n → rest * n < rest * start + e * miss → 2 * (n - start) < e
 near_start rest miss e start n tie past less =
-    let split : rest * (n - start) + rest * start ≡ rest * n = omega (arith, ap (λ i. rest * i) (n-is)) in
+    let split : rest * (n - start) + rest * start ≡ rest * n = omega (arith, ap (λ i. rest * i) (n_is)) in
     let twice : 2 * miss * (n - start) ≤ rest * (n - start) = mul-le-mul_right (n - start) tie in
     lt_of_mul-lt-mul_right miss {m = 2 * (n - start)} {n = e} (omega arith)
   where
-    n-is : n - start + start ≡ n
-    n-is = omega arith
+    n_is : n - start + start ≡ n
+    n_is = omega arith
 
 less_none : (n : ℕ) → n ≡ n - 0
 less_none n = omega arith
@@ -100,13 +100,13 @@ module _ {r : Run} {mid scale factor half up down low high : ℕ} (x : Exact r m
     from_start : r.start ≤ n → b ≤ a
     from_start k = let more = mul-le-mul_left r.times k in let s = steps in omega arith
 
-    pushed-up : x.rest * r.start + x.e * x.miss ≤ x.rest * n → Is
-    pushed-up k =
+    pushed_up : x.rest * r.start + x.e * x.miss ≤ x.rest * n → Is
+    pushed_up k =
         let l : r.start ≤ n = le_of_mul-le-mul_left {m = r.start} {n = n} {k = x.rest} (omega arith) x.rest_some in
         ap (λ i. min i top) (past k ∙ less_none _) ∙ upward lifted mid 0 top (omega arith) (from_start l)
 
-    pushed-down : x.rest * n < x.rest * r.start + x.e * x.miss → Is
-    pushed-down k =
+    pushed_down : x.rest * n < x.rest * r.start + x.e * x.miss → Is
+    pushed_down k =
         ⊎_elim
         (λ (l : n < r.start).
         let more : r.times * (n + 1) ≤ r.times * r.start = mul-le-mul_left r.times (omega arith) in
@@ -118,5 +118,5 @@ module _ {r : Run} {mid scale factor half up down low high : ℕ} (x : Exact r m
         ∙ upward lifted mid 0 top (omega arith) (from_start l))
         (below_or_not n r.start)
 
-    pub exact-is : Is
-    exact-is = ⊎_elim pushed-down pushed-up (below_or_not (x.rest * n) (x.rest * r.start + x.e * x.miss))
+    pub exact_is : Is
+    exact_is = ⊎_elim pushed_down pushed_up (below_or_not (x.rest * n) (x.rest * r.start + x.e * x.miss))

@@ -16,7 +16,7 @@ use Rattle.quotients.specs.Exact.{LumaExact, Shares}
 use Rattle.quotients.specs.Quotients.{nearest_sample, lowered_sample}
 use Rattle.quotients.specs.declared.Share.{Share}
 use Rattle.quotients.proofs.Dividing.{nearest_is, there, lowered_is}
-use Rattle.quotients.proofs.Exactness.{exact-is}
+use Rattle.quotients.proofs.Exactness.{exact_is}
 use Rattle.quotients.proofs.Reaching.{parts_more}
 
 -- the sample of a line that runs with n, where it is made of n taken `scale` times
@@ -29,7 +29,7 @@ module _ {l : Line} {run : Run} {most : ℕ} {n : Pixel → ℕ} (follows : Foll
   pub luma_sample : (factor : ℕ) → LumaExact run scale bias factor → l.mid ≡ 0 → n p ≤ bias → nearest_sample factor top (scale * n p) ≡ line_sample l p
   luma_sample factor x none most_in =
       ap (λ v. min v top) (nearest_is factor (scale * n p))
-      ∙ exact-is x (n p) (omega arith) most_in (factor * (scale * n p) + 70368744177664) (omega arith) (added l p) (taken l p) top (follows.each p w)
+      ∙ exact_is x (n p) (omega arith) most_in (factor * (scale * n p) + 70368744177664) (omega arith) (added l p) (taken l p) top (follows.each p w)
       ∙ ap (λ m. clip top (round (pos (added l p) -ℤ pos (taken l p)) run.over +ℤ pos m)) (sym none)
       ∙ in_line
 
@@ -39,5 +39,5 @@ module _ {l : Line} {run : Run} {most : ℕ} {n : Pixel → ℕ} (follows : Foll
       let enough = there s.factor (scale * n p) s.take (le_trans x.there (parts_more s.factor (mul-le-mul_left scale least))) in
       let v = s.factor * (scale * n p) - s.take * 4294967296 in
       ap (λ v. min v top) (lowered_is s.factor (scale * n p) s.take v (omega arith))
-      ∙ exact-is x.exact (n p) least (omega arith) v (omega arith) (added l p) (taken l p) top (follows.each p w)
+      ∙ exact_is x.exact (n p) least (omega arith) v (omega arith) (added l p) (taken l p) top (follows.each p w)
       ∙ in_line

@@ -90,32 +90,32 @@ module _ {lines : Lines} {r : Runs} (f : RunsFound lines r) where
       light_in : light_by r.kr r.kg r.kb p ≤ r.bias
       light_in = let b = bias_is in let l = in_bias r.kr r.kg r.kb r.most p.p0 p.p1 p.p2 w.p0_in w.p1_in w.p2_in in omega arith
 
-      light-times : light_by (scale * r.kr) (scale * r.kg) (scale * r.kb) p ≡ scale * light_by r.kr r.kg r.kb p
-      light-times = omega arith
+      light_times : light_by (scale * r.kr) (scale * r.kg) (scale * r.kb) p ≡ scale * light_by r.kr r.kg r.kb p
+      light_times = omega arith
 
-      blue-times : blue_by (scale * r.kr) (scale * r.kg) (scale * r.kb) (scale * r.bias) p ≡ scale * blue_by r.kr r.kg r.kb r.bias p
-      blue-times = let l = light_in in times_away scale r.kr r.kg r.kb p.p0 p.p1 p.p2 p.p2 r.bias _ (omega arith)
+      blue_times : blue_by (scale * r.kr) (scale * r.kg) (scale * r.kb) (scale * r.bias) p ≡ scale * blue_by r.kr r.kg r.kb r.bias p
+      blue_times = let l = light_in in times_away scale r.kr r.kg r.kb p.p0 p.p1 p.p2 p.p2 r.bias _ (omega arith)
 
-      red-times : red_by (scale * r.kr) (scale * r.kg) (scale * r.kb) (scale * r.bias) p ≡ scale * red_by r.kr r.kg r.kb r.bias p
-      red-times = let l = light_in in times_away scale r.kr r.kg r.kb p.p0 p.p1 p.p2 p.p0 r.bias _ (omega arith)
+      red_times : red_by (scale * r.kr) (scale * r.kg) (scale * r.kb) (scale * r.bias) p ≡ scale * red_by r.kr r.kg r.kb r.bias p
+      red_times = let l = light_in in times_away scale r.kr r.kg r.kb p.p0 p.p1 p.p2 p.p0 r.bias _ (omega arith)
 
-      y-is : nearest_sample luma top (light_by (scale * r.kr) (scale * r.kg) (scale * r.kb) p) ≡ line_sample lines.first.line p
-      y-is = ap (nearest_sample luma top) light-times ∙ luma_sample f.luma.follows scale r.bias top one.first p w luma first one.mid_none light_in
+      y_is : nearest_sample luma top (light_by (scale * r.kr) (scale * r.kg) (scale * r.kb) p) ≡ line_sample lines.first.line p
+      y_is = ap (nearest_sample luma top) light_times ∙ luma_sample f.luma.follows scale r.bias top one.first p w luma first one.mid_none light_in
 
-      cb-is : lowered_sample blue top (blue_by (scale * r.kr) (scale * r.kg) (scale * r.kb) (scale * r.bias) p) ≡ line_sample lines.second.line p
-      cb-is =
-          ap (lowered_sample blue top) blue-times
+      cb_is : lowered_sample blue top (blue_by (scale * r.kr) (scale * r.kg) (scale * r.kb) (scale * r.bias) p) ≡ line_sample lines.second.line p
+      cb_is =
+          ap (lowered_sample blue top) blue_times
           ∙ share_sample f.blue.follows scale r.bias top one.second p w blue second
           (blue_least r.kr r.kg r.kb r.most r.bias bias_is p w) (blue_most r.kr r.kg r.kb r.most r.bias bias_is p w)
 
-      cr-is : lowered_sample red top (red_by (scale * r.kr) (scale * r.kg) (scale * r.kb) (scale * r.bias) p) ≡ line_sample lines.third.line p
-      cr-is =
-          ap (lowered_sample red top) red-times
+      cr_is : lowered_sample red top (red_by (scale * r.kr) (scale * r.kg) (scale * r.kb) (scale * r.bias) p) ≡ line_sample lines.third.line p
+      cr_is =
+          ap (lowered_sample red top) red_times
           ∙ share_sample f.red.follows scale r.bias top one.third p w red third
           (red_least r.kr r.kg r.kb r.most r.bias bias_is p w) (red_most r.kr r.kg r.kb r.most r.bias bias_is p w)
 
     stands : Stands lines (made (mix_of r scale))
-    stands = record { fits = fits; is = λ p w i. record { p0 = y-is p w i; p1 = cb-is p w i; p2 = cr-is p w i } }
+    stands = record { fits = fits; is = λ p w i. record { p0 = y_is p w i; p1 = cb_is p w i; p2 = cr_is p w i } }
 
     pub stand : (m : Mix) → m ≡ mix_of r scale → Stands lines (made m) × (m.most ≡ r.most)
     stand m e = subst (λ k. Stands lines (made k) × (k.most ≡ r.most)) (sym e) (stands, refl)

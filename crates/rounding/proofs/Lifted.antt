@@ -63,7 +63,7 @@ module _ {p q d g e m lift : ℕ} (v : Lifted p q d g e m lift) where
 
   -- below zero
   record Below : Type 0 where
-    in-lift : nearest p q d ≤ lift
+    in_lift : nearest p q d ≤ lift
     is : (m - 1) / e ≡ lift - nearest p q d
 
   rounds_down : p < q → Below
@@ -80,7 +80,7 @@ module _ {p q d g e m lift : ℕ} (v : Lifted p q d g e m lift) where
       let least : (lift - n) * e < m = lt_of_mul-lt-mul_left g {m = (lift - n) * e} {n = m} (omega arith) in
       let most : m ≤ (lift - n + 1) * e = le_of_mul-le-mul_left {m = m} {n = (lift - n + 1) * e} {k = g} (omega arith) v.g_some in
       let m_some = v.m_some in
-      record { in-lift = inside; is = div-eq_of_lt-le {k = lift - n} e (omega arith) (omega arith) }
+      record { in_lift = inside; is = div-eq_of_lt-le {k = lift - n} e (omega arith) (omega arith) }
 
   under : p < q → m / e < lift + 1
   under h =
@@ -107,12 +107,12 @@ module _ {p q d g e m lift : ℕ} (v : Lifted p q d g e m lift) where
         (below_or_not p q)
 
     -- (m - 1) / e below the lift: the line is below zero
-    pub low-side : (m - 1) / e < lift → min ((m - 1) / e - low) top ≡ clip top (round (pos p -ℤ pos q) d +ℤ pos mid)
-    low-side h = ⊎_elim downward (λ (f : q ≤ p). let l = above f in absurd (omega arith)) (below_or_not p q)
+    pub low_side : (m - 1) / e < lift → min ((m - 1) / e - low) top ≡ clip top (round (pos p -ℤ pos q) d +ℤ pos mid)
+    low_side h = ⊎_elim downward (λ (f : q ≤ p). let l = above f in absurd (omega arith)) (below_or_not p q)
 
     -- at the lift or past it: not below zero, or so little that it rounds to 0
-    pub high-side : lift ≤ (m - 1) / e → min (m / e - low) top ≡ clip top (round (pos p -ℤ pos q) d +ℤ pos mid)
-    high-side h =
+    pub high_side : lift ≤ (m - 1) / e → min (m / e - low) top ≡ clip top (round (pos p -ℤ pos q) d +ℤ pos mid)
+    high_side h =
         ⊎_elim
         (λ (f : p < q).
         let b = rounds_down f in
@@ -124,5 +124,5 @@ module _ {p q d g e m lift : ℕ} (v : Lifted p q d g e m lift) where
         (below_or_not p q)
 
     -- with no mid, all that is below zero is clipped
-    pub no-mid : mid ≡ 0 → min (m / e - low) top ≡ clip top (round (pos p -ℤ pos q) d +ℤ pos mid)
-    no-mid none = ⊎_elim (λ (f : p < q). let u = under f in let is = below_zero p q d mid top f in omega arith) upward (below_or_not p q)
+    pub no_mid : mid ≡ 0 → min (m / e - low) top ≡ clip top (round (pos p -ℤ pos q) d +ℤ pos mid)
+    no_mid none = ⊎_elim (λ (f : p < q). let u = under f in let is = below_zero p q d mid top f in omega arith) upward (below_or_not p q)

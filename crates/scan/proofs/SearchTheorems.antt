@@ -128,11 +128,11 @@ module _ (a : Picture) (q0 q1 q2 : List ℕ) (e0 : SamePicture a.width a.height 
     stands_same (suc (suc zero)) l = e2
     stands_same (suc (suc (suc k))) l = absurd (omega arith)
 
-    with-same : (tops : Pixel) (f : Found) → bad_sample a tops ≡ f → with_sample (sample_on a) f ≡ with_sample (sample_on q) f
-    with-same tops (At place) e =
+    with_same : (tops : Pixel) (f : Found) → bad_sample a tops ≡ f → with_sample (sample_on a) f ≡ with_sample (sample_on q) f
+    with_same tops (At place) e =
         let i = bad_inside a tops place ((at_in_planes_means a tops place).0 e) in
         ap (bad.At place) (stands_same place.plane i.plane_inside place.row place.column i.row_inside i.column_inside)
-    with-same tops Nothing e = refl
+    with_same tops Nothing e = refl
 
-    pub bad-found-same : (tops : Pixel) → bad_found a tops ≡ bad_found q tops
-    bad-found-same tops = with-same tops (bad_sample a tops) refl ∙ ap (with_sample (sample_on q)) (place_same tops)
+    pub bad_found_same : (tops : Pixel) → bad_found a tops ≡ bad_found q tops
+    bad_found_same tops = with_same tops (bad_sample a tops) refl ∙ ap (with_sample (sample_on q)) (place_same tops)

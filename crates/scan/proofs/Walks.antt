@@ -38,16 +38,16 @@ module _ {test : ℕ → ℕ → Bool} {width height : ℕ} where
       record { row_most = omega arith; column_most = omega arith; nothing = refl; rows = λ j h i k. e j i h k; columns = below_none _ }
 
   module _ {found : Found} {j i : ℕ} (w : Walked test width height found j i) where
-    pub walked-column : i < width → test j i ≡ false → Walked test width height found j (i + 1)
-    walked-column l e =
+    pub walked_column : i < width → test j i ≡ false → Walked test width height found j (i + 1)
+    walked_column l e =
         record { row_most = w.row_most; column_most = omega arith; nothing = w.nothing; rows = w.rows; columns = below_more _ i w.columns e }
 
-    pub walked-over : j < height → NoneBefore test j width → Walked test width height found (j + 1) 0
-    walked-over l e =
+    pub walked_over : j < height → NoneBefore test j width → Walked test width height found (j + 1) 0
+    walked_over l e =
         record { row_most = omega arith; column_most = omega arith; nothing = w.nothing; rows = below_more _ j w.rows e; columns = below_none _ }
 
     pub walked_row : j < height → width ≤ i → Walked test width height found (j + 1) 0
-    walked_row l m = walked-over l (λ c h. w.columns c (omega arith))
+    walked_row l m = walked_over l (λ c h. w.columns c (omega arith))
 
     itself : (b : Bool) (r c : ℕ) → r < height → c < width → (test r c ≡ b) ↔ (test r c ≡ b)
     itself b r c l m = (λ e. e, λ e. e)

@@ -4,11 +4,11 @@ use mathlib.Core.List.{[]}
 use Rattle.refusal.specs.Rules.{first}
 use Rattle.setting.specs.declared.Call.TheVariants.{Meter}
 use Rattle.admit.specs.Rules.{bad_one}
-use Rattle.admit.proofs.AdmitLaws.{not-past, past-setting, served_setting, served_ready}
+use Rattle.admit.proofs.AdmitLaws.{not_past, past_setting, served_setting, served_ready}
 use Rattle.admit.proofs.admit_sample.Goals as goal
 
 pub returns-in_default : goal.returns-in_default
-returns-in_default c = let a = c.args in not-past Meter a.s [] _ _ _ c.admit-admission.ensures c.in_default.is
+returns-in_default c = let a = c.args in not_past Meter a.s [] _ _ _ c.admit-admission.ensures c.in_default.is
 
 pub bad_one-requires : goal.bad_one-requires
 bad_one-requires c =
@@ -22,4 +22,4 @@ returns c =
     let e = c.admit-admission.ensures in
     let f = c.in-Admitted.is in
     let t = served_setting Meter a.s _ _ e f in
-    past-setting Meter a.s [] _ _ _ _ _ e f refl (c.bad_one.ensures ∙ (λ i. bad_one a.kind (sym t.1 i).depths a.v)) c.past.ensures
+    past_setting Meter a.s [] _ _ _ _ _ e f refl (c.bad_one.ensures ∙ (λ i. bad_one a.kind (sym t.1 i).depths a.v)) c.past.ensures

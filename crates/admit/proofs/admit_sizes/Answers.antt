@@ -1,10 +1,10 @@
 -- `admit::admit_sizes` meets its contract: the rules on the setting, and then those on the sizes.
 use mathlib.Core.Path.{refl, sym, ◌∙◌}
-use Rattle.admit.proofs.AdmitLaws.{not-past, by_size, past-setting, served_setting}
+use Rattle.admit.proofs.AdmitLaws.{not_past, by_size, past_setting, served_setting}
 use Rattle.admit.proofs.admit_sizes.Goals as goal
 
 pub returns-in_default : goal.returns-in_default
-returns-in_default c = let a = c.args in not-past a.call a.s _ _ _ _ c.admit-admission.ensures c.in_default.is
+returns-in_default c = let a = c.args in not_past a.call a.s _ _ _ _ c.admit-admission.ensures c.in_default.is
 
 pub returns-in-Refused : goal.returns-in-Refused
 returns-in-Refused c =
@@ -15,5 +15,5 @@ returns-in-Refused c =
 pub returns : goal.returns
 returns c =
     let a = c.args in
-    past-setting a.call a.s _ _ _ _ _ _ c.admit-admission.ensures c.in-Admitted.is
+    past_setting a.call a.s _ _ _ _ _ _ c.admit-admission.ensures c.in-Admitted.is
     (sym c.check_sizes-sizes.ensures ∙ c.in_default-sizes.is) refl c.past.ensures

@@ -1,6 +1,6 @@
 -- What remains of the walk from each position is the walk, and each box leads on.
 use Rattle.std.proofs.Common.{arith, sym, ◌∙◌}
-use Rattle.boxes.proofs.WalkLaws.{rest_all, rest-next, rest-found, rest_other, good_box, good_found}
+use Rattle.boxes.proofs.WalkLaws.{rest_all, rest_next, rest_found, rest_other, good_box, good_found}
 use Rattle.boxes.proofs.walk.Goals as goal
 
 pub loop-h-init : goal.loop-h-init
@@ -19,7 +19,7 @@ returns-in_default c =
 pub returns-then-is_wanted-clause-value : goal.returns-then-is_wanted-clause-value
 returns-then-is_wanted-clause-value c =
     let e = sym c.box_at-seen.ensures ∙ c.in-Found.is in
-    sym (rest-found _ _ _ c.loop-h.at c.loop-h.invariant.rest _ e (sym c.is_wanted.ensures ∙ c.if-is_wanted.true))
+    sym (rest_found _ _ _ c.loop-h.at c.loop-h.invariant.rest _ e (sym c.is_wanted.ensures ∙ c.if-is_wanted.true))
 
 pub returns-then-is_wanted-clause-placed : goal.returns-then-is_wanted-clause-placed
 returns-then-is_wanted-clause-placed c =
@@ -46,5 +46,5 @@ loop-h-preserved c =
     record {
       within = p.0.within;
       rest =
-          rest-next _ _ _ c.loop-h.at c.loop-h.invariant.rest _ c.loop-h.invariant.within e w (omega arith) p.0.within;
+          rest_next _ _ _ c.loop-h.at c.loop-h.invariant.rest _ c.loop-h.invariant.within e w (omega arith) p.0.within;
     }

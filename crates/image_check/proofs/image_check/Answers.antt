@@ -14,7 +14,7 @@ use Rattle.scan.proofs.Searches.{first_place_same}
 use Rattle.plan.proofs.PlanLaws.{plans_as}
 use Rattle.plan.proofs.SourceLaws.{takes_back, takes_forth, comes_back_as}
 use Rattle.admit.specs.Rules.{picture_admission}
-use Rattle.admit.proofs.Accepted.{accepted_of, is_ready, all_fit, pixels-inside}
+use Rattle.admit.proofs.Accepted.{accepted_of, is_ready, all_fit, pixels_inside}
 use Rattle.admit.proofs.AdmitLaws.{own_again}
 use Rattle.image_check.specs.Image.{answer_found, image_by, image_answer}
 use Rattle.image_check.proofs.image_check.Goals as goal
@@ -33,7 +33,7 @@ known s a x e =
     record {
       ready = subst Ready k.1 (is_ready ImageCheck s _ _ k.0);
       fits = (all_fit ImageCheck s a [] k.0).0;
-      inside = subst (λ (x : ServedSetting). EveryPixel (InsideYCC x.depths) a) k.1 (pixels-inside ImageCheck s a [] k.0);
+      inside = subst (λ (x : ServedSetting). EveryPixel (InsideYCC x.depths) a) k.1 (pixels_inside ImageCheck s a [] k.0);
     }
 
 -- the picture that is lent

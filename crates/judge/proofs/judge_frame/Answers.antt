@@ -3,7 +3,7 @@ use mathlib.Core.Path.{sym, ◌∙◌}
 use Rattle.planes.specs.Picture.{layout_of}
 use Rattle.admit.proofs.LetIn.{FrameSized, paintable, not_let_in}
 use Rattle.rows.specs.Paint.{input_picture, output_picture}
-use Rattle.judge.proofs.JudgeLaws.{refused_first, refused_after, told-all}
+use Rattle.judge.proofs.JudgeLaws.{refused_first, refused_after, told_all}
 use Rattle.judge.proofs.judge_frame.Goals as goal
 use Rattle.judge.proofs.judge_frame.Goals.{In-Admitted}
 
@@ -25,7 +25,7 @@ returns-then-told c =
     let source = input_picture x.size x.a0.now x.a1.now x.a2.now in
     let claimed = output_picture x.size x.b0.now x.b1.now x.b2.now in
     let sized = let_in ((goal.at.returns-then-told c).In-Admitted) in
-    c.verdict.ensures ∙ told-all x.way x.s source claimed sized _ c.judged-told.ensures c.if-told.true
+    c.verdict.ensures ∙ told_all x.way x.s source claimed sized _ c.judged-told.ensures c.if-told.true
 
 pub returns-in-Refused : goal.returns-in-Refused
 returns-in-Refused c =

@@ -2,7 +2,7 @@
 use mathlib.Core.Path.{◌≡◌, ap, ◌∙◌}
 use Rattle.levels.specs.Conversion.{rgb_of}
 use Rattle.levels.specs.Lines.{readers_of_rgb, writer_of, luma_writer, chroma_writer, lines_of, forward_lines}
-use Rattle.levels.proofs.Fitting.{fits_as, into-luma, into-chroma}
+use Rattle.levels.proofs.Fitting.{fits_as, into_luma, into_chroma}
 use Rattle.levels.proofs.forward_lines.Goals as goal
 use Rattle.levels.proofs.forward_lines.Goals.{After-writer_of-colour, Start}
 
@@ -24,9 +24,9 @@ pub lines_of-requires : goal.lines_of-requires
 lines_of-requires c =
     let e = c.requires.equations_fit in
     let h = c.requires.level_depths in record {
-      line_fits = fits_as (from_is ((goal.at.lines_of-requires c).After-writer_of-colour)) (light_is ((goal.at.lines_of-requires c).After-writer_of-colour)) (into-luma c.args.s h _ e.first);
-      line_fits_2 = fits_as (from_is ((goal.at.lines_of-requires c).After-writer_of-colour)) (colour_is ((goal.at.lines_of-requires c).After-writer_of-colour)) (into-chroma c.args.s h _ e.second);
-      line_fits_3 = fits_as (from_is ((goal.at.lines_of-requires c).After-writer_of-colour)) (colour_is ((goal.at.lines_of-requires c).After-writer_of-colour)) (into-chroma c.args.s h _ e.third);
+      line_fits = fits_as (from_is ((goal.at.lines_of-requires c).After-writer_of-colour)) (light_is ((goal.at.lines_of-requires c).After-writer_of-colour)) (into_luma c.args.s h _ e.first);
+      line_fits_2 = fits_as (from_is ((goal.at.lines_of-requires c).After-writer_of-colour)) (colour_is ((goal.at.lines_of-requires c).After-writer_of-colour)) (into_chroma c.args.s h _ e.second);
+      line_fits_3 = fits_as (from_is ((goal.at.lines_of-requires c).After-writer_of-colour)) (colour_is ((goal.at.lines_of-requires c).After-writer_of-colour)) (into_chroma c.args.s h _ e.third);
     }
 
 pub returns : goal.returns

@@ -2,7 +2,7 @@
 use mathlib.Core.Path.{◌≡◌, ◌∙◌}
 use Rattle.levels.specs.Conversion.{luma_of, chroma_of}
 use Rattle.levels.specs.Lines.{readers_of_ycc, writer_of, rgb_writer, lines_of, reverse_lines}
-use Rattle.levels.proofs.Fitting.{fits_as, luma_fits, chroma_fits, into-rgb}
+use Rattle.levels.proofs.Fitting.{fits_as, luma_fits, chroma_fits, into_rgb}
 use Rattle.levels.proofs.reverse_lines.Goals as goal
 use Rattle.levels.proofs.reverse_lines.Goals.{After-writer_of-to, Start}
 
@@ -28,9 +28,9 @@ pub lines_of-requires : goal.lines_of-requires
 lines_of-requires c =
     let e = c.requires.equations_fit in
     let h = c.requires.level_depths in record {
-      line_fits = fits_as (from_is ((goal.at.lines_of-requires c).After-writer_of-to)) (to_is ((goal.at.lines_of-requires c).After-writer_of-to)) (into-rgb c.args.s h _ e.first);
-      line_fits_2 = fits_as (from_is ((goal.at.lines_of-requires c).After-writer_of-to)) (to_is ((goal.at.lines_of-requires c).After-writer_of-to)) (into-rgb c.args.s h _ e.second);
-      line_fits_3 = fits_as (from_is ((goal.at.lines_of-requires c).After-writer_of-to)) (to_is ((goal.at.lines_of-requires c).After-writer_of-to)) (into-rgb c.args.s h _ e.third);
+      line_fits = fits_as (from_is ((goal.at.lines_of-requires c).After-writer_of-to)) (to_is ((goal.at.lines_of-requires c).After-writer_of-to)) (into_rgb c.args.s h _ e.first);
+      line_fits_2 = fits_as (from_is ((goal.at.lines_of-requires c).After-writer_of-to)) (to_is ((goal.at.lines_of-requires c).After-writer_of-to)) (into_rgb c.args.s h _ e.second);
+      line_fits_3 = fits_as (from_is ((goal.at.lines_of-requires c).After-writer_of-to)) (to_is ((goal.at.lines_of-requires c).After-writer_of-to)) (into_rgb c.args.s h _ e.third);
     }
 
 pub returns : goal.returns

@@ -6,7 +6,7 @@ use native.Mathlib.Omega.{arith}
 use borrow.Author.Tests.{lt-ltb, le-ltb}
 use Rattle.scan.proofs.Searches.{part_fine}
 use Rattle.scan.proofs.SearchTheorems.{nothing_means}
-use Rattle.scan.proofs.Walks.{walked_none, walked-column, walked_row, walked-over, walked_all, walked_here}
+use Rattle.scan.proofs.Walks.{walked_none, walked_column, walked_row, walked_over, walked_all, walked_here}
 use Rattle.scan.proofs.first_bad.Goals as goal
 
 pub returns-then-whole_fine : goal.returns-then-whole_fine
@@ -18,7 +18,7 @@ pub rows-preserved-then-largest-top : goal.rows-preserved-then-largest-top
 rows-preserved-then-largest-top c =
     let x = c.args in
     let starts = c.row_start-a in
-    walked-over c.rows.invariant (omega arith)
+    walked_over c.rows.invariant (omega arith)
     (λ i h. le-ltb x.top _
     (part_fine x.p.now x.stride _ i starts.result (starts.result + x.width) i _ _ (ap (λ n. n + i) starts.ensures.is) (omega arith)
     (omega arith) (omega arith) c.largest.ensures c.if-largest-top.true))
@@ -26,7 +26,7 @@ rows-preserved-then-largest-top c =
 pub loop-i-preserved : goal.loop-i-preserved
 loop-i-preserved c =
     let starts = c.row_start-a.ensures.is in
-    walked-column c.loop-i.invariant (omega arith) (rw (← starts) (le-ltb _ _ c.if-top-p.false))
+    walked_column c.loop-i.invariant (omega arith) (rw (← starts) (le-ltb _ _ c.if-top-p.false))
 
 pub returns-then-top-p : goal.returns-then-top-p
 returns-then-top-p c =

@@ -8,7 +8,7 @@ use Rattle.planes.specs.Picture.{picture}
 use Rattle.row_plan.specs.RowPlan.{row_planned}
 use Rattle.scan.proofs.Searches.{no}
 use Rattle.rows.specs.Paint.{input_picture, output_picture}
-use Rattle.judge.proofs.PictureLaws.{Rows, rows_none, row-beyond, row_told, rows_all, rows_most}
+use Rattle.judge.proofs.PictureLaws.{Rows, rows_none, row_beyond, row_told, rows_all, rows_most}
 use Rattle.judge.proofs.picture.tell_rows.Goals as goal
 
 pub tally_run-row-requires : goal.tally_run-row-requires
@@ -20,7 +20,7 @@ tally_run-row-requires c =
 pub returns-then-not-row : goal.returns-then-not-row
 returns-then-not-row c =
     let x = c.args in (
-      no (row-beyond (input_picture x.size x.a0.now x.a1.now x.a2.now) (output_picture x.size x.b0.now x.b1.now x.b2.now) _ c.row_start-from.ensures.is c.row_start-to.ensures.is c.tally_run-row.ensures (omega arith) (not-true _ c.if-not-row.true)),
+      no (row_beyond (input_picture x.size x.a0.now x.a1.now x.a2.now) (output_picture x.size x.b0.now x.b1.now x.b2.now) _ c.row_start-from.ensures.is c.row_start-to.ensures.is c.tally_run-row.ensures (omega arith) (not-true _ c.if-not-row.true)),
       λ e. absurd (true≢false (sym e)),
     )
 

@@ -7,7 +7,7 @@ use Rattle.planes.specs.Picture.{picture}
 use Rattle.row_plan.specs.RowPlan.{row_planned}
 use Rattle.scan.proofs.Searches.{no}
 use Rattle.rows.specs.Paint.{input_picture, output_picture}
-use Rattle.judge.proofs.PictureLaws.{Rows, rows_none, row-beyond, row_told, rows_all, rows_most}
+use Rattle.judge.proofs.PictureLaws.{Rows, rows_none, row_beyond, row_told, rows_all, rows_most}
 use Rattle.judge.proofs.picture.tell_rows.Given as goal
 
 abbrev pub invariant-loop-j : goal.invariant-loop-j

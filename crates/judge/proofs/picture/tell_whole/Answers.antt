@@ -7,7 +7,7 @@ use Rattle.planes.specs.Picture.{picture}
 use Rattle.planes.specs.Sizes.{most_size}
 use Rattle.planes.proofs.SizeLaws.{needed_whole}
 use Rattle.judge.specs.Judge.{most_run}
-use Rattle.judge.proofs.PictureLaws.{whole-told}
+use Rattle.judge.proofs.PictureLaws.{whole_told}
 use Rattle.judge.proofs.picture.tell_whole.Goals as goal
 use Rattle.judge.proofs.picture.tell_whole.Goals.{After-row_start}
 
@@ -40,6 +40,6 @@ found_in-requires c =
 pub returns : goal.returns
 returns c =
     let x = c.args in
-    let t = whole-told (picture x.width x.height x.width x.a0.now x.a1.now x.a2.now) (picture x.width x.height x.width x.b0.now x.b1.now x.b2.now)
+    let t = whole_told (picture x.width x.height x.width x.a0.now x.a1.now x.a2.now) (picture x.width x.height x.width x.b0.now x.b1.now x.b2.now)
     c.requires.fits.sized.width_within.from_least refl refl (whole ((goal.at.returns c).After-row_start)) c.tally_run-all.ensures in
     rw c.found_in.ensures t

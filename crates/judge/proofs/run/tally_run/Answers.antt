@@ -12,7 +12,7 @@ use Rattle.row_plan.specs.RowPlan.{row_planned}
 use Rattle.compare.specs.Compare.{most_part}
 use Rattle.compare.proofs.CountLaws.{count_most}
 use Rattle.judge.specs.Judge.{run_wrong}
-use Rattle.judge.proofs.RunLaws.{Running, running_none, running-sought, running-found, running_all, part_of_fine}
+use Rattle.judge.proofs.RunLaws.{Running, running_none, running_sought, running_found, running_all, part_of_fine}
 use Rattle.judge.proofs.run.tally_run.Goals as goal
 use Rattle.judge.proofs.run.tally_run.Goals.{After-next_part-m, then-sought, else-sought}
 
@@ -91,8 +91,8 @@ loop-done-preserved c =
     let wide = l.invariant.1 in (
       elim c.if-sought.branch [
         | then-sought w ↦
-            rw w.first-is (running-sought l.invariant.0 f (p.tells.0 fine) (p.told fine) (eq-eqb _ _ w.if-sought.true) w.if-sought.true)
-        | else-sought w ↦ rw w.first-is (running-found l.invariant.0 f (p.tells.0 fine) (p.told fine) w.if-sought.false)
+            rw w.first-is (running_sought l.invariant.0 f (p.tells.0 fine) (p.told fine) (eq-eqb _ _ w.if-sought.true) w.if-sought.true)
+        | else-sought w ↦ rw w.first-is (running_found l.invariant.0 f (p.tells.0 fine) (p.told fine) w.if-sought.false)
       ],
       (kept.c0 ∙ wide.0, (kept.c1 ∙ wide.1.0, kept.c2 ∙ wide.1.1)),
     )

@@ -10,7 +10,7 @@ use Rattle.row_plan.specs.RowPlan.{row_planned}
 use Rattle.compare.specs.Compare.{most_part}
 use Rattle.compare.proofs.CountLaws.{count_most}
 use Rattle.judge.specs.Judge.{run_wrong}
-use Rattle.judge.proofs.RunLaws.{Running, running_none, running-sought, running-found, running_all, part_of_fine}
+use Rattle.judge.proofs.RunLaws.{Running, running_none, running_sought, running_found, running_all, part_of_fine}
 use Rattle.judge.proofs.run.tally_run.Given as goal
 
 -- three rows with room for a part

@@ -1,6 +1,6 @@
 -- What is said of one track more lies inside, and each track leads on.
 use Rattle.std.proofs.Common.{arith}
-use Rattle.media.proofs.SaidLaws.{across-in, said_in}
+use Rattle.media.proofs.SaidLaws.{across_in, said_in}
 use Rattle.media.proofs.file.tracks_said.Goals as goal
 
 pub loop-at-preserved : goal.loop-at-preserved
@@ -12,6 +12,6 @@ loop-at-preserved g c =
     let l = c.loop-at in
     record {
       after = omega arith;
-      said = rw c.across-said.ensures (across-in c.args.from c.args.end l.said r.result l.invariant.said q);
+      said = rw c.across-said.ensures (across_in c.args.from c.args.end l.said r.result l.invariant.said q);
       few = c.counted-tracks.ensures;
     }

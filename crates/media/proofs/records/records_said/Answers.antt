@@ -1,6 +1,6 @@
 -- What is said of one record more lies inside, and each record leads on.
 use Rattle.std.proofs.Common.{arith}
-use Rattle.media.proofs.SaidLaws.{beside-in, said_in}
+use Rattle.media.proofs.SaidLaws.{beside_in, said_in}
 use Rattle.media.proofs.records.records_said.Goals as goal
 
 pub loop-at-preserved : goal.loop-at-preserved
@@ -12,5 +12,5 @@ loop-at-preserved g c =
     let l = c.loop-at in
     record {
       after = omega arith;
-      said = rw c.beside-said.ensures (beside-in c.args.from c.args.end l.said r.result l.invariant.said q);
+      said = rw c.beside-said.ensures (beside_in c.args.from c.args.end l.said r.result l.invariant.said q);
     }
