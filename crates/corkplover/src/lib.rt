@@ -1,4 +1,6 @@
 // The box. Every entry point stands in this crate: none has a `requires`, and each contract settles the answer for every input.
+#![tactic(auto)]
+
 pub mod exports;
 pub mod frame_exports;
 pub mod frames;

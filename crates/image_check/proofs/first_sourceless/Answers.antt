@@ -4,10 +4,12 @@ use mathlib.Core.Path.{◌≡◌, sym, ap, ◌∙◌}
 use mathlib.Core.Bool.{true, not}
 use Prim.Native.Nat.{◌+◌}
 use native.Mathlib.Omega.{arith}
+use borrow.Author.Rules.{rules}
 use Rattle.planes.specs.Picture.{Picture, picture, pixel_of}
-use Rattle.scan.proofs.Walks.{walked_none, walked_past, walked_column, walked_row, walked_over, walked_all, walked_here}
+use Rattle.scan.proofs.Walks.{walked_none, walked_past, walked-column, walked_row, walked-over, walked_all, walked_here}
 use Rattle.plan.specs.Plan.{planned, Takes}
 use Rattle.plan.specs.Source.{comes_back}
+use Rattle.convert.specs.Row.{pixel_in}
 use Rattle.convert.proofs.RunLaws.{row_run, run_of_every, pixel_of_part}
 use Rattle.image_check.proofs.first_sourceless.Goals as goal
 use Rattle.image_check.proofs.first_sourceless.Goals.{After-comes_back, After-pixel_in, Start}
@@ -18,10 +20,12 @@ lent s = picture s.args.width s.args.height s.args.stride s.args.a0.now s.args.a
 
 -- the pixel that is read is the one at row j and column i
 reads : (c : After-pixel_in) → c.pixel_in.result ≡ pixel_of (lent c.before.before.before.before.before.before.before.before.before.before.before.before.before.before) c.rows.j c.loop-i.i
-reads c = rw c.row_start-a.ensures.is at c.pixel_in.ensures
+reads c = c.pixel_in.ensures ∙ ap (pixel_in c.args.a0.now c.args.a1.now c.args.a2.now) (let start = c.row_start-a.ensures.is in omega arith)
 
 comes : (c : After-comes_back) → c.comes_back.result ≡ comes_back (planned c.args.back) (planned c.args.forth) (pixel_of (lent c.before.before.before.before.before.before.before.before.before.before.before.before.before.before.before) c.rows.j c.loop-i.i)
-comes c = rw (rw c.row_start-a.ensures.is at c.pixel_in.ensures) at c.comes_back.ensures
+comes c =
+    let read = c.pixel_in.ensures ∙ ap (pixel_in c.args.a0.now c.args.a1.now c.args.a2.now) (let start = c.row_start-a.ensures.is in omega arith) in
+    c.comes_back.ensures ∙ ap (comes_back (planned c.args.back) (planned c.args.forth)) read
 
 pub pixel_in-requires : goal.pixel_in-requires
 pixel_in-requires c =
@@ -49,14 +53,14 @@ pub rows-preserved-then-run_comes_back : goal.rows-preserved-then-run_comes_back
 rows-preserved-then-run_comes_back c =
     let start = c.row_start-a in
     let long = c.requires.fits.long in
-    walked_over c.rows.invariant (omega arith)
+    walked-over c.rows.invariant (omega arith)
     (λ i h. ap not
     (pixel_of_part (lent ((goal.at.rows-preserved-then-run_comes_back c).Start)) start.result c.args.width (λ p. comes_back (planned c.args.back) (planned c.args.forth) p ≡ true) (omega (arith, start.ensures.last))
     (c.run_comes_back.ensures c.if-run_comes_back.true) i _ i (ap (λ n. n + i) start.ensures.is) h))
 
 pub loop-i-preserved : goal.loop-i-preserved
 loop-i-preserved c =
-    walked_column c.loop-i.invariant (omega arith) (ap not (sym (comes ((goal.at.loop-i-preserved c).After-comes_back)) ∙ c.if-not-comes_back.false))
+    walked-column c.loop-i.invariant (omega arith) (let e = comes ((goal.at.loop-i-preserved c).After-comes_back) in search rules)
 
 pub returns-then-not-comes_back : goal.returns-then-not-comes_back
 returns-then-not-comes_back c =
