@@ -6,7 +6,7 @@ use Prim.Native.Nat.{◌+◌}
 use native.Mathlib.Omega.{arith}
 use borrow.Author.Rules.{rules}
 use Rattle.planes.specs.Picture.{Picture, picture, pixel_of}
-use Rattle.scan.proofs.Walks.{walked_none, walked_past, walked-column, walked_row, walked-over, walked_all, walked_here}
+use Rattle.scan.proofs.Walks.{walked_none, walked_past, walked_column, walked_row, walked_over, walked_all, walked_here}
 use Rattle.plan.specs.Plan.{planned, Takes}
 use Rattle.plan.specs.Source.{comes_back}
 use Rattle.convert.specs.Row.{pixel_in}
@@ -53,14 +53,14 @@ pub rows-preserved-then-run_comes_back : goal.rows-preserved-then-run_comes_back
 rows-preserved-then-run_comes_back c =
     let start = c.row_start-a in
     let long = c.requires.fits.long in
-    walked-over c.rows.invariant (omega arith)
+    walked_over c.rows.invariant (omega arith)
     (λ i h. ap not
     (pixel_of_part (lent ((goal.at.rows-preserved-then-run_comes_back c).Start)) start.result c.args.width (λ p. comes_back (planned c.args.back) (planned c.args.forth) p ≡ true) (omega (arith, start.ensures.last))
     (c.run_comes_back.ensures c.if-run_comes_back.true) i _ i (ap (λ n. n + i) start.ensures.is) h))
 
 pub loop-i-preserved : goal.loop-i-preserved
 loop-i-preserved c =
-    walked-column c.loop-i.invariant (omega arith) (let e = comes ((goal.at.loop-i-preserved c).After-comes_back) in search rules)
+    walked_column c.loop-i.invariant (omega arith) (let e = comes ((goal.at.loop-i-preserved c).After-comes_back) in search rules)
 
 pub returns-then-not-comes_back : goal.returns-then-not-comes_back
 returns-then-not-comes_back c =
