@@ -85,6 +85,7 @@ fn ask_label(kind: CodeKind, edition: u8, code: u8) -> Answer
     }
 }
 
+#[tactic(auto, unfolding(crate::specs::Answers::answer_to))]
 pub fn ask(request: Request) -> Answer
     ensures { result ≡ answer_to request }
 {
