@@ -5,7 +5,6 @@ use Prim.Native.Nat.{ℕ, ◌≤◌}
 use native.Mathlib.Omega.{arith}
 use Rattle.codes.specs.Edition.{edition_of}
 use Rattle.codes.specs.Label.{label_number, label_for}
-use Rattle.codes.specs.declared.edition.Edition.{Edition}
 use Rattle.codes.specs.declared.edition.EditionChecked.{EditionChecked}
 use Rattle.codes.specs.declared.edition.EditionChecked.TheVariants as edition
 use Rattle.codes.specs.declared.label.CodeKind.{CodeKind}

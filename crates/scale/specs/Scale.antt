@@ -44,7 +44,7 @@ chroma_scale false d = record { times = chroma_span * S d.0; plus = grey * S d.0
 abbrev pub level : Scale → ℕ → Frac
 level s v = part (pos v -ℤ pos s.plus) s.times
 
--- R, G, B and Y written: Round(M-as-E) in full range (33), Round(2^s(219·E + 16)) in narrow range (27)
+-- R, G, B and Y written: Round(M·E) in full range (33), Round(2^s(219·E + 16)) in narrow range (27)
 abbrev pub written : Bool → ℕ → Frac → ℕ
 written true d e = Clip d (Round (whole (M d) ⊗ e))
 written false d e = Clip d (Round (whole (S d) ⊗ (whole light_span ⊗ e ⊕ whole black)))
@@ -55,7 +55,7 @@ written_rgb full d e = written full d.0 e
 abbrev pub written_luma : Bool → LumaDepth → Frac → ℕ
 written_luma full d e = written full d.0 e
 
--- Cb and Cr written: Round(M-as-E) + H in full range (34, 35), Round(2^s(224·E + 128)) in narrow range (28, 29)
+-- Cb and Cr written: Round(M·E) + H in full range (34, 35), Round(2^s(224·E + 128)) in narrow range (28, 29)
 abbrev pub written_chroma : Bool → ChromaDepth → Frac → ℕ
 written_chroma true d e = Clip d.0 (Round (whole (M d.0) ⊗ e) +ℤ pos (H d.0))
 written_chroma false d e = Clip d.0 (Round (whole (S d.0) ⊗ (whole chroma_span ⊗ e ⊕ whole grey)))

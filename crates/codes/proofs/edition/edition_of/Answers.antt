@@ -1,8 +1,9 @@
--- `codes::edition::edition_of` meets its contract: each of the three by its number, and past them none.
-use mathlib.Core.Path.{sym}
+-- `codes::edition::edition_of` meets its contract: each of the three by its number, and any other is none.
+use mathlib.Core.Path.{◌≡◌, sym}
+use Prim.Native.Nat.{ℕ, ◌≤◌}
 use native.Mathlib.Omega.{arith}
 use lib.ListN.{get_or-eq_default}
-use Rattle.codes.specs.Edition.{editions}
+use Rattle.codes.specs.Edition.{editions, edition_of}
 use Rattle.codes.specs.declared.edition.EditionChecked.TheVariants.{Unknown}
 use Rattle.codes.proofs.edition.edition_of.Goals as goal
 
@@ -15,8 +16,15 @@ returns-in-2 c = rw c.in-2.is
 pub returns-in-3 : goal.returns-in-3
 returns-in-3 c = rw c.in-3.is
 
+-- a number that was forgotten, and those past the last edition
+forgotten : (n : ℕ) → n ≡ 0 → Unknown ≡ edition_of n
+forgotten n e = rw e
+
+past : (n : ℕ) → 4 ≤ n → Unknown ≡ edition_of n
+past n l = sym (get_or-eq_default editions Unknown {n = n} l)
+
 pub returns-in-0 : goal.returns-in-0
-returns-in-0 c = rw c.in-0.in-0-own.keys4
+returns-in-0 c = forgotten _ (omega arith)
 
 pub returns-in-0-2 : goal.returns-in-0-2
-returns-in-0-2 c = sym (get_or-eq_default editions Unknown {n = c.args.number} (omega (arith, c.in-0.in-0-own.rest)))
+returns-in-0-2 c = past _ (omega arith)

@@ -1,5 +1,5 @@
--- The edition decides whether there is one.
-use Rattle.std.proofs.Common.{ap}
+-- `corkplover::labels::label` meets its contract: the edition decides whether there is one.
+use mathlib.Core.Path.{ap}
 use Rattle.corkplover.specs.Answers.{label_answer}
 use Rattle.corkplover.specs.declared.labels.LabelAnswer.TheVariants.{Labelled, Refused}
 use Rattle.corkplover.proofs.labels.label.Goals as goal

@@ -1,21 +1,16 @@
--- A setting that was let in has depths.
-use Rattle.std.proofs.Common.{sym, ap, ◌∙◌}
-use Rattle.setting.specs.Ready.{Ready}
+-- `corkplover::meters::meter_pixel` meets its contract: a setting that was let in has depths.
+use mathlib.Core.Path.{sym, ap, ◌∙◌}
 use Rattle.setting.specs.declared.Call.TheVariants.{Meter}
 use Rattle.admit.proofs.Accepted.{pixel_admitted}
 use Rattle.corkplover.specs.Answers.{levels_answer}
 use Rattle.corkplover.specs.declared.meters.LevelsAnswer.TheVariants as answer
 use Rattle.corkplover.proofs.meters.meter_pixel.Goals as goal
-use Rattle.corkplover.proofs.meters.meter_pixel.Goals.{In-Admitted}
 
-ready : (c : In-Admitted) → Ready c.in-Admitted.served
-ready c = (pixel_admitted Meter c.args.s c.args.p _ (sym c.admit_pixel.ensures ∙ c.in-Admitted.is)).is_ready
-
-pub levels_of-requires-clause-depth : goal.levels_of-requires-clause-depth
-levels_of-requires-clause-depth c = (ready (goal.at.levels_of-requires-clause-depth c).In-Admitted).three.luma
-
-pub levels_of-requires-clause-depth_2 : goal.levels_of-requires-clause-depth_2
-levels_of-requires-clause-depth_2 c = (ready (goal.at.levels_of-requires-clause-depth_2 c).In-Admitted).three.chroma
+pub levels_of-requires : goal.levels_of-requires
+levels_of-requires c =
+    let a = c.args in
+    let k = (pixel_admitted Meter a.s a.p _ (sym c.admit_pixel.ensures ∙ c.in-Admitted.is)).is_ready in
+    record { depth = k.three.luma; depth_2 = k.three.chroma }
 
 pub returns-in-Refused : goal.returns-in-Refused
 unfolding levels_answer

@@ -1,21 +1,23 @@
 -- `judge::picture::tell_rows` meets its contract: with each turn one row more is told.
 use mathlib.Core.Path.{sym}
 use mathlib.Core.Bool.{true≢false}
-use Prim.Native.Nat.{◌-◌}
 use native.Mathlib.Omega.{arith}
 use borrow.Author.Tests.{not-true, not-false}
-use Rattle.planes.specs.Picture.{picture}
-use Rattle.row_plan.specs.RowPlan.{row_planned}
 use Rattle.scan.proofs.Searches.{no}
 use Rattle.rows.specs.Paint.{input_picture, output_picture}
-use Rattle.judge.proofs.PictureLaws.{Rows, rows_none, row_beyond, row_told, rows_all, rows_most}
+use Rattle.judge.proofs.PictureLaws.{rows_none, row_beyond, row_told, rows_all, rows_most}
 use Rattle.judge.proofs.picture.tell_rows.Goals as goal
 
 pub tally_run-row-requires : goal.tally_run-row-requires
 tally_run-row-requires c =
     let a = c.requires.fits in
     let b = c.requires.fits_2 in
-    record { row_roomy = (c.requires.row_roomy, c.requires.takes_up_to); n_le_most_run = omega (arith, a.sized.width_within.to_most); long = omega (arith, a.long, c.row_start-from.ensures.last); long_2 = omega (arith, b.long, c.row_start-to.ensures.last) }
+    record {
+        row_roomy = (c.requires.row_roomy, c.requires.takes_up_to);
+        n_le_most_run = omega (arith, a.sized.width_within.to_most);
+        long = omega (arith, a.long, c.row_start-from.ensures.last);
+        long_2 = omega (arith, b.long, c.row_start-to.ensures.last);
+      }
 
 pub returns-then-not-row : goal.returns-then-not-row
 returns-then-not-row c =
@@ -25,7 +27,10 @@ returns-then-not-row c =
     )
 
 pub or_row-first-requires : goal.or_row-first-requires
-or_row-first-requires c = let sized = c.requires.fits.sized in record { j_lt_most_size = omega (arith, sized.height_within.to_most); width_le_most_size = sized.width_within.to_most }
+or_row-first-requires c = let sized = c.requires.fits.sized in record {
+    j_lt_most_size = omega (arith, sized.height_within.to_most);
+    width_le_most_size = sized.width_within.to_most;
+  }
 
 pub overflow_add-wrong : goal.overflow_add-wrong
 overflow_add-wrong c =

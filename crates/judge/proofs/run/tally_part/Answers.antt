@@ -2,7 +2,6 @@
 use mathlib.Core.Path.{sym, subst}
 use mathlib.Core.Bool.{true≢false}
 use native.Mathlib.Omega.{arith}
-use borrow.Author.Tests.{not-true, not-false}
 use lib.ListN.{take}
 use Rattle.convert.specs.Row.{row_part, ConvertedRows}
 use Rattle.row_plan.specs.RowPlan.{row_planned}
@@ -16,7 +15,12 @@ use Rattle.judge.proofs.run.tally_part.Goals.{Else-not-paint_row}
 pub paint_row-requires : goal.paint_row-requires
 paint_row-requires c =
     let long = c.requires.n_le_most_part.1 in
-    record { row_roomy = c.requires.row_roomy.0; takes_up_to = c.requires.row_roomy.1; long = c.requires.long; long_2 = omega arith }
+    record {
+        row_roomy = c.requires.row_roomy.0;
+        takes_up_to = c.requires.row_roomy.1;
+        long = c.requires.long;
+        long_2 = omega arith;
+      }
 
 pub returns-then-not-paint_row : goal.returns-then-not-paint_row
 returns-then-not-paint_row c =
@@ -39,7 +43,11 @@ pub compare_part-requires : goal.compare_part-requires
 compare_part-requires c =
     let kept = c.paint_row.auto in
     let n = c.requires.n_le_most_part in
-    record { n_le_most_part = n.0; long = omega (arith, n.1, kept.b0, kept.b1, kept.b2); long_2 = c.requires.long_2 }
+    record {
+        n_le_most_part = n.0;
+        long = omega (arith, n.1, kept.b0, kept.b1, kept.b2);
+        long_2 = c.requires.long_2;
+      }
 
 pub returns : goal.returns
 returns c =

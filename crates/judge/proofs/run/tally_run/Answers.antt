@@ -1,18 +1,14 @@
 -- `judge::run::tally_run` meets its contract: with each part the run is told further.
 use mathlib.Core.Path.{◌≡◌, sym, ◌∙◌}
 use mathlib.Core.Bool.{true≢false}
-use mathlib.Core.Logic.{⊎_elim}
-use mathlib.Core.List.{List}
-use Prim.Native.Nat.{ℕ, ◌+◌, ◌-◌, ◌≤◌}
+use Prim.Native.Nat.{◌+◌, ◌≤◌}
 use native.Mathlib.Omega.{arith}
 use borrow.Author.Tests.{not-true, not-false}
 use Rattle.std.proofs.Common.{eq-eqb}
-use lib.ListN.{length}
 use Rattle.row_plan.specs.RowPlan.{row_planned}
-use Rattle.compare.specs.Compare.{most_part}
 use Rattle.compare.proofs.CountLaws.{count_most}
 use Rattle.judge.specs.Judge.{run_wrong}
-use Rattle.judge.proofs.RunLaws.{Running, running_none, running_sought, running_found, running_all, part_of_fine}
+use Rattle.judge.proofs.RunLaws.{running_none, running_sought, running_found, running_all, part_of_fine}
 use Rattle.judge.proofs.run.tally_run.Goals as goal
 use Rattle.judge.proofs.run.tally_run.Goals.{After-next_part-m, then-sought, else-sought}
 
@@ -33,7 +29,12 @@ tally_part-part-requires c =
     let wide = c.loop-done.invariant.1 in
     let a = c.requires.long in
     let b = c.requires.long_2 in
-    record { row_roomy = c.requires.row_roomy; n_le_most_part = (omega arith, omega (arith, part, wide.0, wide.1.0, wide.1.1)); long = omega arith; long_2 = omega arith }
+    record {
+        row_roomy = c.requires.row_roomy;
+        n_le_most_part = (omega arith, omega (arith, part, wide.0, wide.1.0, wide.1.1));
+        long = omega arith;
+        long_2 = omega arith;
+      }
 
 pub returns-then-not-part : goal.returns-then-not-part
 returns-then-not-part c =

@@ -1,16 +1,11 @@
 -- `judge::run::tally_run` meets its contract: with each part the run is told further.
-use mathlib.Core.Path.{◌≡◌, sym, ◌∙◌}
-use mathlib.Core.Bool.{true≢false}
-use mathlib.Core.Logic.{⊎_elim}
+use mathlib.Core.Path.{◌≡◌}
 use mathlib.Core.List.{List}
-use Prim.Native.Nat.{ℕ, ◌+◌, ◌-◌, ◌≤◌}
-use borrow.Author.Tests.{eqb-true, eqb-false, not-true, not-false}
+use Prim.Native.Nat.{ℕ, ◌-◌}
 use lib.ListN.{length}
 use Rattle.row_plan.specs.RowPlan.{row_planned}
 use Rattle.compare.specs.Compare.{most_part}
-use Rattle.compare.proofs.CountLaws.{count_most}
-use Rattle.judge.specs.Judge.{run_wrong}
-use Rattle.judge.proofs.RunLaws.{Running, running_none, running_sought, running_found, running_all, part_of_fine}
+use Rattle.judge.proofs.RunLaws.{Running}
 use Rattle.judge.proofs.run.tally_run.Given as goal
 
 -- three rows with room for a part

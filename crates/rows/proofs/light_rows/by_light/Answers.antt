@@ -11,7 +11,10 @@ loop-i-init c = (refl, written_none c.requires.one_width)
 pub pixel_of-q-requires : goal.pixel_of-q-requires
 pixel_of-q-requires c =
     let inside = c.requires.every_of c.loop-i.i (omega arith) in
-    record { light_fits = c.requires.light_fits; up_to = subst (UpTo c.args.by.mix.most) (sym c.pixel_in-p.ensures) inside }
+    record {
+        light_fits = c.requires.light_fits;
+        up_to = subst (UpTo c.args.by.mix.most) (sym c.pixel_in-p.ensures) inside;
+      }
 
 pub loop-i-preserved : goal.loop-i-preserved
 loop-i-preserved c =
