@@ -55,5 +55,8 @@ pub fn judge(
     let l0 = p0.length;
     let l1 = p1.length;
     let l2 = p2.length;
-    answer_lines::judgement(rt, judged(way, s, z, a0, a1, a2, &b0[..l0], &b1[..l1], &b2[..l2]))
+    answer_lines::judgement(
+        rt,
+        judged(way, s, z, a0, a1, a2, &b0[..l0], &b1[..l1], &b2[..l2]),
+    )
 }

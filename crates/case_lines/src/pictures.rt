@@ -132,10 +132,21 @@ fn check(
     if at != line.len() {
         return answer_lines::bad_line(rt);
     }
-    answer_lines::image(rt, frames::image_check(s, width, height, stride, a0, a1, a2))
+    answer_lines::image(
+        rt,
+        frames::image_check(s, width, height, stride, a0, a1, a2),
+    )
 }
 
-fn on_planes(rt: &impl Print, line: &[u8], at: usize, request: PictureRequest, a0: &[u16], a1: &[u16], a2: &[u16]) -> io::Result<()> {
+fn on_planes(
+    rt: &impl Print,
+    line: &[u8],
+    at: usize,
+    request: PictureRequest,
+    a0: &[u16],
+    a1: &[u16],
+    a2: &[u16],
+) -> io::Result<()> {
     match request {
         PictureRequest::Convert(way, s, z) => convert_into(rt, line, at, way, s, z, a0, a1, a2),
         PictureRequest::Judge(way, s, z) => claims::judge(rt, line, at, way, s, z, a0, a1, a2),
@@ -177,7 +188,12 @@ pub fn on_frame(rt: &impl Print, line: &[u8], edition: u8, task: FrameTask) -> i
             13,
             PictureRequest::Convert(way, setting, size),
         ),
-        FrameTask::Judge(way) => on_picture(rt, line, 13, PictureRequest::Judge(way, setting, size)),
+        FrameTask::Judge(way) => on_picture(
+            rt,
+            line,
+            13,
+            PictureRequest::Judge(way, setting, size),
+        ),
     }
 }
 
