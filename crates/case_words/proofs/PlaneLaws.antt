@@ -1,4 +1,5 @@
--- A plane is read sample by sample: after i turns i samples are read, and what stood behind them is as it was.
+-- A plane is read sample by sample: after i turns i samples are read, and what stood behind them
+-- is as it was.
 use mathlib.Core.Path.{◌≡◌, refl, sym, ap, ◌∙◌}
 use mathlib.Core.List.{List}
 use Prim.Native.Nat.{ℕ, ◌+◌, ◌<◌}

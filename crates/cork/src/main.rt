@@ -123,8 +123,8 @@ fn on_words(rt: &(impl Env + Files<File = File> + Print), all: &[u8]) -> io::Res
     }
 }
 
-// One word of the command line, at the end of those before it. A word that is longer than `one` leaves its beginning there: that goes on
-// with two dots, as no word does that belongs anywhere.
+// One word of the command line, at the end of those before it. A word that is longer than `one`
+// leaves its beginning there: that goes on with two dots, as no word does that belongs anywhere.
 fn word(rt: &impl Env, i: usize, words: &mut [u8], at: usize) -> usize
     requires { at ≤ length words.old }
     ensures words { Words 1 words.old at words.new result }

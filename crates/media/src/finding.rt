@@ -18,7 +18,8 @@ pub struct Span {
 // Why a file was not understood. Positions are counted from its start.
 #[derive(Clone, Copy)]
 pub enum Trouble {
-    // nothing could be read, for this reason in the system's numbers; 0 where the file ended before it should have
+    // nothing could be read, for this reason in the system's numbers;
+    // 0 where the file ended before it should have
     Unread(i32),
     // it begins as no such file does
     Stranger,

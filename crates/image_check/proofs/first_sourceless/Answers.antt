@@ -32,20 +32,20 @@ pixel_in-requires c =
     let long = c.requires.fits.long in
     let start = c.row_start-a.ensures.last in
     record {
-        i_in_bounds = omega (arith, long.long0);
-        i_in_bounds_2 = omega (arith, long.long1);
-        i_in_bounds_3 = omega (arith, long.long2);
-      }
+      i_in_bounds = omega (arith, long.long0);
+      i_in_bounds_2 = omega (arith, long.long1);
+      i_in_bounds_3 = omega (arith, long.long2);
+    }
 
 pub comes_back-requires : goal.comes_back-requires
 comes_back-requires c =
     let p = c.requires in
     record {
-        roomy = p.roomy.0;
-        roomy_2 = p.roomy.1;
-        takes = rw (reads ((goal.at.comes_back-requires c).After-pixel_in)) (p.every_pixel _ _ (omega arith) (omega arith));
-        takes_2 = rw (reads ((goal.at.comes_back-requires c).After-pixel_in)) (p.every_pixel_2 _ _ (omega arith) (omega arith));
-      }
+      roomy = p.roomy.0;
+      roomy_2 = p.roomy.1;
+      takes = rw (reads ((goal.at.comes_back-requires c).After-pixel_in)) (p.every_pixel _ _ (omega arith) (omega arith));
+      takes_2 = rw (reads ((goal.at.comes_back-requires c).After-pixel_in)) (p.every_pixel_2 _ _ (omega arith) (omega arith));
+    }
 
 -- a picture or a row that is passed over
 pub returns-then-whole_comes_back : goal.returns-then-whole_comes_back
@@ -57,10 +57,10 @@ run_comes_back-requires c =
     let start = c.row_start-a.ensures in
     let long = c.requires.fits.long in
     record {
-        roomy = c.requires.roomy;
-        long = omega (arith, start.last);
-        every_of = run_of_every (row_run _ (omega arith) start.is) (λ p. Takes c.args.forth (planned c.args.back p)) c.requires.every_pixel_2 (omega (arith, start.last));
-      }
+      roomy = c.requires.roomy;
+      long = omega (arith, start.last);
+      every_of = run_of_every (row_run _ (omega arith) start.is) (λ p. Takes c.args.forth (planned c.args.back p)) c.requires.every_pixel_2 (omega (arith, start.last));
+    }
 
 pub rows-preserved-then-run_comes_back : goal.rows-preserved-then-run_comes_back
 rows-preserved-then-run_comes_back c =

@@ -53,11 +53,11 @@ first_sourceless-requires c =
     let k = plans_as _ _ c.plan_of-back.ensures h.ready in
     let l = plans_as _ _ c.plan_of-forth.ensures h.ready in
     record {
-        roomy = (k.roomy, l.roomy);
-        fits = h.fits;
-        every_pixel = λ j i p q. takes_back _ k l _ (h.inside j i p q);
-        every_pixel_2 = λ j i p q. takes_forth _ k l _ h.ready (h.inside j i p q);
-      }
+      roomy = (k.roomy, l.roomy);
+      fits = h.fits;
+      every_pixel = λ j i p q. takes_back _ k l _ (h.inside j i p q);
+      every_pixel_2 = λ j i p q. takes_forth _ k l _ h.ready (h.inside j i p q);
+    }
 
 -- what was found, as the answer
 answered : (c : After-first_sourceless) → let a = lent c.before.before.before.before.before.before.before.before.before.before in

@@ -18,37 +18,37 @@ pub convert_row-requires : goal.convert_row-requires
 convert_row-requires c =
     let e = c.in-Plan.is in
     record {
-        roomy = roomy_as e c.requires.row_roomy;
-        one_width = c.requires.one_width;
-        every_of = takes_as _ _ _ e c.requires.every_of;
-      }
+      roomy = roomy_as e c.requires.row_roomy;
+      one_width = c.requires.one_width;
+      every_of = takes_as _ _ _ e c.requires.every_of;
+    }
 
 pub by_quotients-requires : goal.by_quotients-requires
 by_quotients-requires c =
     let e = c.in-Quotients.is in
     record {
-        quotients_fit = roomy_as e c.requires.row_roomy;
-        one_width = c.requires.one_width;
-        every_of = takes_as _ _ _ e c.requires.every_of;
-      }
+      quotients_fit = roomy_as e c.requires.row_roomy;
+      one_width = c.requires.one_width;
+      every_of = takes_as _ _ _ e c.requires.every_of;
+    }
 
 pub by_light-requires : goal.by_light-requires
 by_light-requires c =
     let e = c.in-Light.is in
     record {
-        light_fits = roomy_as e c.requires.row_roomy;
-        one_width = c.requires.one_width;
-        every_of = takes_as _ _ _ e c.requires.every_of;
-      }
+      light_fits = roomy_as e c.requires.row_roomy;
+      one_width = c.requires.one_width;
+      every_of = takes_as _ _ _ e c.requires.every_of;
+    }
 
 pub by_words-requires : goal.by_words-requires
 by_words-requires c =
     let e = c.in-Words.is in
     record {
-        all_words_fit = roomy_as e c.requires.row_roomy;
-        one_width = c.requires.one_width;
-        every_of = takes_as _ _ _ e c.requires.every_of;
-      }
+      all_words_fit = roomy_as e c.requires.row_roomy;
+      one_width = c.requires.one_width;
+      every_of = takes_as _ _ _ e c.requires.every_of;
+    }
 
 pub returns-in-Plan : goal.returns-in-Plan
 returns-in-Plan c =

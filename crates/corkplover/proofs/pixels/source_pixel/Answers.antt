@@ -20,11 +20,11 @@ comes_back-requires c =
     let k = plans_as _ _ c.plan_of-back.ensures h.is_ready in
     let l = plans_as _ _ c.plan_of-forth.ensures h.is_ready in
     record {
-        roomy = k.roomy;
-        roomy_2 = l.roomy;
-        takes = takes_back _ k l _ h.inside;
-        takes_2 = takes_forth _ k l _ h.is_ready h.inside;
-      }
+      roomy = k.roomy;
+      roomy_2 = l.roomy;
+      takes = takes_back _ k l _ h.inside;
+      takes_2 = takes_forth _ k l _ h.is_ready h.inside;
+    }
 
 -- the answer by the test
 tested : (c : After-comes_back) (t : Bool) → c.comes_back.result ≡ t → cond t answer.Yes answer.NoSource ≡ source_answer c.args.s c.args.p

@@ -7,11 +7,11 @@ paint_whole-requires c =
     let input = c.if-input_stride-width.true in
     let output = c.if-output_stride-width.true in
     record {
-        row_roomy = p.row_roomy;
-        takes_up_to = p.takes_up_to;
-        fits = rw input at p.fits;
-        fits_2 = rw output at p.fits_2;
-      }
+      row_roomy = p.row_roomy;
+      takes_up_to = p.takes_up_to;
+      fits = rw input at p.fits;
+      fits_2 = rw output at p.fits_2;
+    }
 
 pub returns-then-output_stride-width : goal.returns-then-output_stride-width
 returns-then-output_stride-width c = rw (c.if-input_stride-width.true, c.if-output_stride-width.true) c.paint_whole.ensures

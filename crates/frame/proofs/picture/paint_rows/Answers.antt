@@ -41,11 +41,11 @@ paint_row-requires c =
     let kept = c.zero_gap.auto in
     let room = row_room (turn ((goal.at.paint_row-requires c).After-row_start-to)) kept.p0 kept.p1 kept.p2 in
     record {
-        row_roomy = c.requires.row_roomy;
-        takes_up_to = c.requires.takes_up_to;
-        long = room.0;
-        long_2 = room.1;
-      }
+      row_roomy = c.requires.row_roomy;
+      takes_up_to = c.requires.takes_up_to;
+      long = room.0;
+      long_2 = room.1;
+    }
 
 pub returns-then-not-paint_row : goal.returns-then-not-paint_row
 returns-then-not-paint_row c = (

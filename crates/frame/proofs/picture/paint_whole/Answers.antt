@@ -31,11 +31,11 @@ pub paint_row-requires : goal.paint_row-requires
 paint_row-requires c =
     let r = whole_room (whole ((goal.at.paint_row-requires c).After-row_start)) in
     record {
-        row_roomy = c.requires.row_roomy;
-        takes_up_to = c.requires.takes_up_to;
-        long = r.0;
-        long_2 = r.1;
-      }
+      row_roomy = c.requires.row_roomy;
+      takes_up_to = c.requires.takes_up_to;
+      long = r.0;
+      long_2 = r.1;
+    }
 
 pub returns-then-not-paint_row : goal.returns-then-not-paint_row
 returns-then-not-paint_row c = (

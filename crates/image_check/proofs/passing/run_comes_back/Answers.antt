@@ -10,8 +10,8 @@ row_comes_back-requires c =
     let w1 = part_width c.args.a1.now c.args.from c.args.n long.long1 in
     let w2 = part_width c.args.a2.now c.args.from c.args.n long.long2 in
     record {
-        roomy = c.requires.roomy;
-        a1_len = w1 ∙ sym w0;
-        a2_len = w2 ∙ sym w0;
-        every_of = c.requires.every_of;
-      }
+      roomy = c.requires.roomy;
+      a1_len = w1 ∙ sym w0;
+      a2_len = w2 ∙ sym w0;
+      every_of = c.requires.every_of;
+    }

@@ -29,10 +29,10 @@ run_comes_back-requires c =
     let long = c.requires.fits.long in
     let starts = c.row_start.ensures.is in
     record {
-        roomy = c.requires.roomy;
-        long = omega arith;
-        every_of = run_of_every (run ((goal.at.run_comes_back-requires c).After-row_start)) (λ p. Takes c.args.forth (planned c.args.back p)) c.requires.every_pixel (omega arith);
-      }
+      roomy = c.requires.roomy;
+      long = omega arith;
+      every_of = run_of_every (run ((goal.at.run_comes_back-requires c).After-row_start)) (λ p. Takes c.args.forth (planned c.args.back p)) c.requires.every_pixel (omega arith);
+    }
 
 pub returns : goal.returns
 returns c e j i h k =

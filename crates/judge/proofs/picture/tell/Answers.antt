@@ -7,11 +7,11 @@ tell_whole-requires c =
     let input = c.if-input_stride-width.true in
     let claimed = c.if-output_stride-width.true in
     record {
-        row_roomy = p.row_roomy;
-        takes_up_to = p.takes_up_to;
-        fits = rw input at p.fits;
-        fits_2 = rw claimed at p.fits_2;
-      }
+      row_roomy = p.row_roomy;
+      takes_up_to = p.takes_up_to;
+      fits = rw input at p.fits;
+      fits_2 = rw claimed at p.fits_2;
+    }
 
 pub returns-then-output_stride-width : goal.returns-then-output_stride-width
 returns-then-output_stride-width c = rw (c.if-input_stride-width.true, c.if-output_stride-width.true) c.tell_whole.ensures

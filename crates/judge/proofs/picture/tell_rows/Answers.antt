@@ -13,11 +13,11 @@ tally_run-row-requires c =
     let a = c.requires.fits in
     let b = c.requires.fits_2 in
     record {
-        row_roomy = (c.requires.row_roomy, c.requires.takes_up_to);
-        n_le_most_run = omega (arith, a.sized.width_within.to_most);
-        long = omega (arith, a.long, c.row_start-from.ensures.last);
-        long_2 = omega (arith, b.long, c.row_start-to.ensures.last);
-      }
+      row_roomy = (c.requires.row_roomy, c.requires.takes_up_to);
+      n_le_most_run = omega (arith, a.sized.width_within.to_most);
+      long = omega (arith, a.long, c.row_start-from.ensures.last);
+      long_2 = omega (arith, b.long, c.row_start-to.ensures.last);
+    }
 
 pub returns-then-not-row : goal.returns-then-not-row
 returns-then-not-row c =
@@ -28,9 +28,9 @@ returns-then-not-row c =
 
 pub or_row-first-requires : goal.or_row-first-requires
 or_row-first-requires c = let sized = c.requires.fits.sized in record {
-    j_lt_most_size = omega (arith, sized.height_within.to_most);
-    width_le_most_size = sized.width_within.to_most;
-  }
+  j_lt_most_size = omega (arith, sized.height_within.to_most);
+  width_le_most_size = sized.width_within.to_most;
+}
 
 pub overflow_add-wrong : goal.overflow_add-wrong
 overflow_add-wrong c =

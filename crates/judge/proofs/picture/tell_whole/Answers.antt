@@ -31,20 +31,20 @@ tally_run-all-requires c =
     let a = c.requires.fits in
     let b = c.requires.fits_2 in
     record {
-        row_roomy = (c.requires.row_roomy, c.requires.takes_up_to);
-        n_le_most_run = omega (arith, whole ((goal.at.tally_run-all-requires c).After-row_start), area ((goal.at.tally_run-all-requires c).After-row_start));
-        long = omega (arith, a.long, c.row_start.ensures.is);
-        long_2 = omega (arith, b.long, c.row_start.ensures.is);
-      }
+      row_roomy = (c.requires.row_roomy, c.requires.takes_up_to);
+      n_le_most_run = omega (arith, whole ((goal.at.tally_run-all-requires c).After-row_start), area ((goal.at.tally_run-all-requires c).After-row_start));
+      long = omega (arith, a.long, c.row_start.ensures.is);
+      long_2 = omega (arith, b.long, c.row_start.ensures.is);
+    }
 
 pub found_in-requires : goal.found_in-requires
 found_in-requires c =
     let z = c.requires.fits.sized in
     record {
-        width_nonzero = z.width_within.from_least;
-        n_bound = omega (arith, whole ((goal.at.found_in-requires c).After-row_start), rows_most ((goal.at.found_in-requires c).After-row_start));
-        width_le_most_size = z.width_within.to_most;
-      }
+      width_nonzero = z.width_within.from_least;
+      n_bound = omega (arith, whole ((goal.at.found_in-requires c).After-row_start), rows_most ((goal.at.found_in-requires c).After-row_start));
+      width_le_most_size = z.width_within.to_most;
+    }
 
 pub returns : goal.returns
 returns c =

@@ -16,11 +16,11 @@ pub paint_row-requires : goal.paint_row-requires
 paint_row-requires c =
     let long = c.requires.n_le_most_part.1 in
     record {
-        row_roomy = c.requires.row_roomy.0;
-        takes_up_to = c.requires.row_roomy.1;
-        long = c.requires.long;
-        long_2 = omega arith;
-      }
+      row_roomy = c.requires.row_roomy.0;
+      takes_up_to = c.requires.row_roomy.1;
+      long = c.requires.long;
+      long_2 = omega arith;
+    }
 
 pub returns-then-not-paint_row : goal.returns-then-not-paint_row
 returns-then-not-paint_row c =
@@ -44,10 +44,10 @@ compare_part-requires c =
     let kept = c.paint_row.auto in
     let n = c.requires.n_le_most_part in
     record {
-        n_le_most_part = n.0;
-        long = omega (arith, n.1, kept.b0, kept.b1, kept.b2);
-        long_2 = c.requires.long_2;
-      }
+      n_le_most_part = n.0;
+      long = omega (arith, n.1, kept.b0, kept.b1, kept.b2);
+      long_2 = c.requires.long_2;
+    }
 
 pub returns : goal.returns
 returns c =

@@ -30,11 +30,11 @@ tally_part-part-requires c =
     let a = c.requires.long in
     let b = c.requires.long_2 in
     record {
-        row_roomy = c.requires.row_roomy;
-        n_le_most_part = (omega arith, omega (arith, part, wide.0, wide.1.0, wide.1.1));
-        long = omega arith;
-        long_2 = omega arith;
-      }
+      row_roomy = c.requires.row_roomy;
+      n_le_most_part = (omega arith, omega (arith, part, wide.0, wide.1.0, wide.1.1));
+      long = omega arith;
+      long_2 = omega arith;
+    }
 
 pub returns-then-not-part : goal.returns-then-not-part
 returns-then-not-part c =

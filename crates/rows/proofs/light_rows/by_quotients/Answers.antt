@@ -12,9 +12,9 @@ pub pixel_of-q-requires : goal.pixel_of-q-requires
 pixel_of-q-requires c =
     let inside = c.requires.every_of c.loop-i.i (omega arith) in
     record {
-        quotients_fit = c.requires.quotients_fit;
-        up_to = subst (UpTo c.args.by.mix.most) (sym c.pixel_in-p.ensures) inside;
-      }
+      quotients_fit = c.requires.quotients_fit;
+      up_to = subst (UpTo c.args.by.mix.most) (sym c.pixel_in-p.ensures) inside;
+    }
 
 pub loop-i-preserved : goal.loop-i-preserved
 loop-i-preserved c =

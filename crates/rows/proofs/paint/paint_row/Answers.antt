@@ -13,10 +13,10 @@ convert_row-requires c =
     let p = c.requires in
     let fine = c.row_fine.ensures.0 c.if-not-row_fine.false in
     record {
-        row_roomy = p.row_roomy;
-        one_width = parts_one_width _ _ _ _ _ _ _ _ _ p.long p.long_2;
-        every_of = λ k l. p.takes_up_to.each _ (fine k l);
-      }
+      row_roomy = p.row_roomy;
+      one_width = parts_one_width _ _ _ _ _ _ _ _ _ p.long p.long_2;
+      every_of = λ k l. p.takes_up_to.each _ (fine k l);
+    }
 
 pub returns : goal.returns
 returns c =

@@ -12,9 +12,9 @@ pub sided_sample-requires : goal.sided_sample-requires
 sided_sample-requires c =
     let inside = c.requires.every_of c.loop-i.i (omega arith) in
     record {
-        words_fit = c.requires.words_fit;
-        up_to = subst (UpTo c.args.by.most) (sym c.pixel_in-p.ensures) inside;
-      }
+      words_fit = c.requires.words_fit;
+      up_to = subst (UpTo c.args.by.most) (sym c.pixel_in-p.ensures) inside;
+    }
 
 pub loop-i-preserved : goal.loop-i-preserved
 loop-i-preserved c = (refl, plane_more c.loop-i.invariant.1 (omega arith) c.pixel_in-p.ensures c.sided_sample.ensures)
