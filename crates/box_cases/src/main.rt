@@ -1,6 +1,7 @@
 // Answers the cases on standard input. What it writes is held to the stored answers.
 #![tactic(auto)]
 
+ghost use Rattle.std.specs.Prelude.{◌≡◌, length};
 ghost use Rattle.std.specs.Io.{ReadsAtMost};
 
 use std::io;
@@ -22,7 +23,9 @@ fn read_full(input: &mut impl Read, room: &mut [u8]) -> io::Result<usize>
 }
 
 // The answers to all cases of the input, as far as there is room for its text.
-fn answered(rt: &(impl Input + Print), room: &mut [u8]) -> io::Result<()> {
+fn answered(rt: &(impl Input + Print), room: &mut [u8]) -> io::Result<()>
+    ensures { length room.new ≡ length room.old }
+{
     let n = read_full(&mut rt.reader(), room)?;
     case_lines::all(rt, &room[..n])
 }

@@ -1,7 +1,7 @@
 -- Laws of the walk over a picture, row by row and column by column, that ends at the first place where a test holds. `Walked` is the
 -- invariant of both loops: that of the columns at row j and column i, that of the rows at row j and column 0. It begins by `walked_none`, or
 -- by `walked_past` has passed the whole picture over;
--- a turn of the columns is `walked-column`, a row that is through `walked_row`, a row that is passed over as a whole `walked-over`. What
+-- a turn of the columns is `walked_column`, a row that is through `walked_row`, a row that is passed over as a whole `walked_over`. What
 -- was found is by `walked_all` and `walked_here` what the search finds.
 use mathlib.Core.Path.{◌≡◌, refl, sym, ◌∙◌, subst}
 use mathlib.Core.Bool.{Bool, true, false}
