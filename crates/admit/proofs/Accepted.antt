@@ -1,4 +1,5 @@
 -- What is known of a call that no rule refused: its setting is ready, its sizes fit, and every sample is within its depth.
+use Rattle.std.specs.Prelude.{Ok, Option, Some, None}
 use mathlib.Core.Path.{◌≡◌, sym, ap, subst, ◌∙◌}
 use mathlib.Core.Bool.{true≢false}
 use mathlib.Core.List.{List, [], ◌∷◌}
@@ -11,7 +12,6 @@ use Rattle.sample.specs.declared.Depths.{Depths}
 use Rattle.sample.specs.declared.Pixel.{Pixel}
 use Rattle.sample.specs.declared.Side.{Side}
 use Rattle.refusal.specs.Rules.{Rule, first}
-use Rattle.refusal.specs.declared.Check.TheVariants.{Passed}
 use Rattle.refusal.proofs.RuleLaws.{neither}
 use Rattle.meter.specs.declared.SampleKind.{SampleKind}
 use Rattle.setting.specs.Call.{reads}
@@ -20,34 +20,32 @@ use Rattle.setting.specs.Rules.{depths, served, setting_rules, admitted}
 use Rattle.setting.specs.declared.Call.{Call}
 use Rattle.setting.specs.declared.Call.TheVariants as call
 use Rattle.setting.specs.declared.Setting.{Setting}
-use Rattle.setting.specs.declared.admission.Admission.TheVariants as admission
 use Rattle.setting.specs.declared.admission.Served.{Served}
 use Rattle.setting.proofs.ReadyLaws.{ready}
 use Rattle.scan.specs.First.{NotAbove, bad_sample, sample_on, bad_rule}
 use Rattle.planes.specs.Picture.{Picture, layout_of, EveryPixel}
 use Rattle.planes.specs.Sizes.{size_rules, EveryLayout, Fits}
-use Rattle.scan.specs.declared.Bad.{Bad}
-use Rattle.scan.specs.declared.Bad.TheVariants.{At, Nothing}
 use Rattle.planes.specs.declared.size.Layout.{Layout}
 use Rattle.scan.proofs.Searches.{none_with}
 use Rattle.scan.proofs.SearchTheorems.{nothing_in_pixels_means}
 use Rattle.planes.proofs.SizeTheorems.{fits}
 use Rattle.admit.specs.Rules.{call_admission, sized_admission, beyond_depth, pixel_picture, pixel_admission, sample_admission}
 use Rattle.admit.proofs.AdmitLaws.{admitted_passed, in_turn, by_sample}
+use Rattle.refusal.specs.declared.Place.{Place}
 
 -- no rule applies
-pub record Accepted (call : Call) (s : Setting) (sizes : List Rule) (bad : Bad) : Type 0 where
-  pub setting : first (setting_rules call s) ≡ Passed
-  pub sizes_pass : first sizes ≡ Passed
-  pub samples : bad ≡ Nothing
+pub record Accepted (call : Call) (s : Setting) (sizes : List Rule) (bad : Option (Place × ℕ)) : Type 0 where
+  pub setting : first (setting_rules call s) ≡ Ok tt
+  pub sizes_pass : first sizes ≡ Ok tt
+  pub samples : bad ≡ None
 
-none_bad : (f : Bad) → first (bad_rule f ∷ []) ≡ Passed → f ≡ Nothing
+none_bad : (f : Option (Place × ℕ)) → first (bad_rule f ∷ []) ≡ Ok tt → f ≡ None
 unfolding first
-none_bad (At place v) e = absurd (true≢false cc)
-none_bad Nothing e = cc
+none_bad (Some b) e = absurd (true≢false cc)
+none_bad None e = cc
 
-module _ (call : Call) (s : Setting) (sizes : List Rule) (bad : Bad) where
-  pub accepted_of : (x : Served) → call_admission call s sizes bad ≡ admission.Admitted x → Accepted call s sizes bad × (served s ≡ x)
+module _ (call : Call) (s : Setting) (sizes : List Rule) (bad : Option (Place × ℕ)) where
+  pub accepted_of : (x : Served) → call_admission call s sizes bad ≡ Ok x → Accepted call s sizes bad × (served s ≡ x)
   unfolding call_admission
   accepted_of x e =
       let t = admitted_passed _ (served s) x e in
@@ -55,7 +53,7 @@ module _ (call : Call) (s : Setting) (sizes : List Rule) (bad : Bad) where
       let v = neither _ _ u.1 in
       (record { setting = u.0; sizes_pass = v.0; samples = none_bad bad v.1 }, t.1)
 
-  pub of_accepted : Accepted call s sizes bad → call_admission call s sizes bad ≡ admission.Admitted (served s)
+  pub of_accepted : Accepted call s sizes bad → call_admission call s sizes bad ≡ Ok (served s)
   unfolding first
   of_accepted k = sym (by_sample call s sizes bad k.setting k.sizes_pass) ∙ rw k.samples
 
@@ -63,17 +61,17 @@ module _ (call : Call) (s : Setting) (sizes : List Rule) (bad : Bad) where
   is_ready k = ready call s k.setting
 
 -- who was let in by setting and sizes has only the samples left
-module _ (call : Call) (s : Setting) (sizes : List Rule) (x : Served) (e : sized_admission call s sizes ≡ admission.Admitted x) where
-  pub sized : (first (setting_rules call s) ≡ Passed) × (first sizes ≡ Passed)
-  sized = let k = (accepted_of call s sizes Nothing x e).0 in (k.setting, k.sizes_pass)
+module _ (call : Call) (s : Setting) (sizes : List Rule) (x : Served) (e : sized_admission call s sizes ≡ Ok x) where
+  pub sized : (first (setting_rules call s) ≡ Ok tt) × (first sizes ≡ Ok tt)
+  sized = let k = (accepted_of call s sizes None x e).0 in (k.setting, k.sizes_pass)
 
   pub is_served : served s ≡ x
-  is_served = (accepted_of call s sizes Nothing x e).1
+  is_served = (accepted_of call s sizes None x e).1
 
   pub sized_ready : Ready x
   sized_ready = subst Ready is_served (ready call s sized.0)
 
-  pub then_samples : (bad : Bad) → admitted (first (bad_rule bad ∷ [])) x ≡ call_admission call s sizes bad
+  pub then_samples : (bad : Option (Place × ℕ)) → admitted (first (bad_rule bad ∷ [])) x ≡ call_admission call s sizes bad
   then_samples bad = sym (ap (admitted (first (bad_rule bad ∷ []))) is_served) ∙ by_sample call s sizes bad sized.0 sized.1
 
 -- a sample is not above the largest of its depth exactly if it is below 2^depth
@@ -90,7 +88,7 @@ pub inside_of : (side : Side) (d : Depths) (p : Pixel) → NotAbove (tops side d
 inside_of side d p = not_above (plane_depth side d 0) (plane_depth side d 1) (plane_depth side d 2) p
 
 -- no sample of a picture is bad exactly if every pixel lies within the depths of its side
-pub inside_exactly : (side : Side) (d : Depths) (a : Picture) → (beyond_depth side d a ≡ Nothing) ↔ EveryPixel (InsideOf side d) a
+pub inside_exactly : (side : Side) (d : Depths) (a : Picture) → (beyond_depth side d a ≡ None) ↔ EveryPixel (InsideOf side d) a
 inside_exactly side d a =
     let t = nothing_in_pixels_means a (tops side d) in
     let n = none_with (sample_on a) (bad_sample a (tops side d)) in
@@ -113,7 +111,7 @@ pub record PixelAdmitted (side : Side) (p : Pixel) (x : Served) : Type 0 where
   pub is_ready : Ready x
   pub inside : InsideOf side x.depths p
 
-pub pixel_admitted : (call : Call) (s : Setting) (p : Pixel) (x : Served) → pixel_admission call s p ≡ admission.Admitted x → PixelAdmitted (reads call) p x
+pub pixel_admitted : (call : Call) (s : Setting) (p : Pixel) (x : Served) → pixel_admission call s p ≡ Ok x → PixelAdmitted (reads call) p x
 pixel_admitted call s p x e =
     let k = accepted_of call s [] _ x e in
     subst (PixelAdmitted (reads call) p) k.1
@@ -123,5 +121,5 @@ pixel_admitted call s p x e =
     })
 
 -- and of the meter's on one sample
-pub one_ready : (k : SampleKind) (s : Setting) (v : ℕ) (x : Served) → sample_admission k s v ≡ admission.Admitted x → Ready x
+pub one_ready : (k : SampleKind) (s : Setting) (v : ℕ) (x : Served) → sample_admission k s v ≡ Ok x → Ready x
 one_ready k s v x e = let t = accepted_of call.Meter s [] _ x e in subst Ready t.1 (ready call.Meter s t.0.setting)

@@ -1,4 +1,5 @@
 -- A conversion is let in by its setting and its sizes first, and then by its samples.
+use Rattle.std.specs.Prelude.{Ok}
 use mathlib.Core.Path.{◌≡◌, sym, ap, ◌∙◌, subst}
 use mathlib.Core.List.{[], ◌∷◌}
 use Rattle.sample.specs.Depth.{InsideOf}
@@ -7,7 +8,6 @@ use Rattle.setting.specs.Ready.{Ready}
 use Rattle.setting.specs.declared.Call.TheVariants.{Convert}
 use Rattle.setting.specs.declared.Setting.{Setting}
 use Rattle.setting.specs.declared.Way.{Way}
-use Rattle.setting.specs.declared.admission.Admission.TheVariants as admission
 use Rattle.setting.specs.declared.admission.Served.{Served}
 use Rattle.planes.specs.Picture.{Picture, layout_of, EveryPixel}
 use Rattle.planes.specs.Sizes.{Fits}
@@ -18,7 +18,7 @@ use Rattle.admit.proofs.Accepted.{accepted_of, pixels_inside, sized, is_served, 
 
 -- its setting and its sizes let it in, with x served
 pub record FrameSized (way : Way) (s : Setting) (a : Picture) (b : Layout) (x : Served) : Type 0 where
-  pub is_sized : by_sizes (Convert way) s a b ≡ admission.Admitted x
+  pub is_sized : by_sizes (Convert way) s a b ≡ Ok x
 
 module _ {way : Way} {s : Setting} {a : Picture} {b : Layout} {x : Served} (l : FrameSized way s a b x) where
   pub paintable : Ready x × (Fits a.width a.height (layout_of a) × Fits a.width a.height b)
@@ -30,13 +30,13 @@ module _ {way : Way} {s : Setting} {a : Picture} {b : Layout} {x : Served} (l : 
   Inside = EveryPixel (InsideOf (input_of way) x.depths) a
 
   -- with all samples within depth it is let in, and with one that is not it is not
-  pub let_in : Inside → frame_admission way s a b ≡ admission.Admitted x
+  pub let_in : Inside → frame_admission way s a b ≡ Ok x
   let_in inside =
       let same = is_served (Convert way) s _ x l.is_sized in
       let own = subst (λ (y : Served). EveryPixel (InsideOf (input_of way) y.depths) a) (sym same) inside in
       ap (call_admission (Convert way) s _) ((inside_exactly (input_of way) _ a).1 own) ∙ l.is_sized
 
-  pub not_let_in : (Inside → ⊥) → (y : Served) → frame_admission way s a b ≡ admission.Admitted y → ⊥
+  pub not_let_in : (Inside → ⊥) → (y : Served) → frame_admission way s a b ≡ Ok y → ⊥
   not_let_in none y e =
       let k = accepted_of (Convert way) s _ _ y e in
       let same = is_served (Convert way) s _ x l.is_sized in

@@ -3,20 +3,18 @@
 #![tactic(auto)]
 
 ghost use Rattle.std.specs.Prelude.{◌≡◌};
-ghost use Rattle.corkplover.specs.Answers.{label_answer, pixel_answer, reading, levels_answer};
+ghost use Rattle.corkplover.specs.Answers.{label_answer, pixel_answer, source_answer, reading, levels_answer};
 ghost use Rattle.ask.specs.Answers.{of_pixel, of_source, of_reading, of_levels, of_label, ask_pixel, answer_to};
 
 use codes::label::CodeKind;
-use corkplover::labels::LabelAnswer;
-use corkplover::meters::{LevelsAnswer, Reading};
-use corkplover::pixels::{PixelAnswer, SourceAnswer};
 use corkplover::{labels, meters, pixels};
 use meter::SampleKind;
+use refusal::Refusal;
 use request::{Answer, Request};
 use sample::Pixel;
 use setting::{Call, Setting, Way};
 
-fn convert(way: Way, s: Setting, p: Pixel) -> PixelAnswer
+fn convert(way: Way, s: Setting, p: Pixel) -> Result<Pixel, Refusal>
     ensures { result ≡ pixel_answer way s p }
 {
     match way {
@@ -25,68 +23,53 @@ fn convert(way: Way, s: Setting, p: Pixel) -> PixelAnswer
     }
 }
 
-fn of_pixel(way: Way, a: PixelAnswer) -> Answer
-    ensures { result ≡ of_pixel way a }
+fn ask_samples(way: Way, s: Setting, p: Pixel) -> Result<Answer, Refusal>
+    ensures { result ≡ of_pixel way (pixel_answer way s p) }
 {
-    match a {
-        PixelAnswer::Converted(p) => Answer::Samples(way, p),
-        PixelAnswer::Refused(refusal) => Answer::Refused(refusal),
-    }
+    let converted = convert(way, s, p)?;
+    Ok(Answer::Samples(way, converted))
 }
 
-fn of_source(a: SourceAnswer) -> Answer
-    ensures { result ≡ of_source a }
+fn ask_source(s: Setting, p: Pixel) -> Result<Answer, Refusal>
+    ensures { result ≡ of_source (source_answer s p) }
 {
-    match a {
-        SourceAnswer::Yes => Answer::Source(true),
-        SourceAnswer::NoSource => Answer::Source(false),
-        SourceAnswer::Refused(refusal) => Answer::Refused(refusal),
-    }
+    let found = pixels::source_pixel(s, p)?;
+    Ok(Answer::Source(found))
 }
 
-fn ask_sample(kind: SampleKind, s: Setting, v: u16) -> Answer
+fn ask_sample(kind: SampleKind, s: Setting, v: u16) -> Result<Answer, Refusal>
     ensures { result ≡ of_reading (reading kind s v) }
 {
-    match meters::meter_sample(kind, s, v) {
-        Reading::Level(x) => Answer::Level(f32::to_bits(x)),
-        Reading::Refused(refusal) => Answer::Refused(refusal),
-    }
+    let level = meters::meter_sample(kind, s, v)?;
+    Ok(Answer::Level(level.to_bits()))
 }
 
-fn ask_levels(s: Setting, p: Pixel) -> Answer
+fn ask_levels(s: Setting, p: Pixel) -> Result<Answer, Refusal>
     ensures { result ≡ of_levels (levels_answer s p) }
 {
-    match meters::meter_pixel(s, p) {
-        LevelsAnswer::Levels(l) => Answer::Levels(
-            f32::to_bits(l.y),
-            f32::to_bits(l.cb),
-            f32::to_bits(l.cr),
-        ),
-        LevelsAnswer::Refused(refusal) => Answer::Refused(refusal),
-    }
+    let levels = meters::meter_pixel(s, p)?;
+    Ok(Answer::Levels(levels.y.to_bits(), levels.cb.to_bits(), levels.cr.to_bits()))
 }
 
-fn ask_pixel(call: Call, s: Setting, p: Pixel) -> Answer
+fn ask_pixel(call: Call, s: Setting, p: Pixel) -> Result<Answer, Refusal>
     ensures { result ≡ ask_pixel call s p }
 {
     match call {
-        Call::Convert(way) => of_pixel(way, convert(way, s, p)),
+        Call::Convert(way) => ask_samples(way, s, p),
         Call::Meter => ask_levels(s, p),
-        Call::ImageCheck => of_source(pixels::source_pixel(s, p)),
+        Call::ImageCheck => ask_source(s, p),
     }
 }
 
-fn ask_label(kind: CodeKind, edition: u8, code: u8) -> Answer
+fn ask_label(kind: CodeKind, edition: u8, code: u8) -> Result<Answer, Refusal>
     ensures { result ≡ of_label (label_answer kind edition code) }
 {
-    match labels::label(kind, edition, code) {
-        LabelAnswer::Labelled(found) => Answer::Label(found),
-        LabelAnswer::Refused(refusal) => Answer::Refused(refusal),
-    }
+    let label = labels::label(kind, edition, code)?;
+    Ok(Answer::Label(label))
 }
 
 #[tactic(auto, unfolding(crate::specs::Answers::answer_to))]
-pub fn ask(request: Request) -> Answer
+pub fn ask(request: Request) -> Result<Answer, Refusal>
     ensures { result ≡ answer_to request }
 {
     match request {

@@ -5,6 +5,7 @@ use mathlib.Core.List.{List, [], ◌∷◌}
 use Prim.Native.Nat.{ℕ, zero, suc, ◌+◌, ◌-◌, ◌≤◌, ◌<◌}
 use native.Mathlib.Omega.{arith}
 use borrow.Author.Tests.{ltb-true, ltb-false}
+use Rattle.std.specs.Prelude.{Option}
 use denote.Enum.Declared
 use lib.Dec.{ltb, eqb}
 use lib.ListN.{length}
@@ -70,12 +71,12 @@ module _ (s : List ℕ) (room at : ℕ) (h : at ≤ room) where
   good_found f e = rw e at good_box
 
 -- what remains of a walk from a position, over enough boxes
-pub record Rest (s : List ℕ) (room kind at : ℕ) : Type 0 where
+pub record Rest (s : List ℕ) (room : ℕ) (kind : Option ℕ) (at : ℕ) : Type 0 where
   pub boxes : ℕ
   pub enough : room - at < suc boxes
   pub same : walked s room kind ≡ walked_from (suc boxes) s room kind at
 
-module _ (s : List ℕ) (room kind : ℕ) where
+module _ (s : List ℕ) (room : ℕ) (kind : Option ℕ) where
   pub rest_all : Rest s room kind 0
   rest_all = record { boxes = room; enough = omega arith; same = refl }
 

@@ -1,6 +1,6 @@
 -- Boxes as ISO/IEC 14496-12 writes them: a size of 32 bits, four letters, a size of 64 bits where the first is 1, and what the box holds. A size counts
 -- the header too, and 0 means all that is left of what holds the box.
-use Rattle.std.specs.Prelude.{Bool, true, cond, List, ℕ, zero, suc, ◌+◌, ◌-◌, ◌*◌, ltb, eqb, length, get_or}
+use Rattle.std.specs.Prelude.{Bool, true, cond, List, ℕ, zero, suc, ◌+◌, ◌-◌, ◌*◌, ltb, eqb, length, get_or, Option, Some, None}
 use Rattle.boxes.specs.declared.Header.{Header}
 use Rattle.boxes.specs.declared.Walked.{Walked}
 use Rattle.boxes.specs.declared.Walked.TheVariants.{Found, Beyond, Small, Further, Cut, End}
@@ -39,12 +39,13 @@ box_at s room at =
     (cond (eqb (word_at s at) 1) (long_box s room at (word_at s (at + 4)))
     (fitted (header_of at (word_at s (at + 4)) 8 (whole_of (word_at s at) (room - at))) (room - at))))
 
--- 0 asks for a box of any kind
-abbrev pub wanted : ℕ → ℕ → Bool
-wanted kind found = cond (eqb kind 0) true (eqb kind found)
+-- no kind asks for a box of any kind
+abbrev pub wanted : Option ℕ → ℕ → Bool
+wanted None found = true
+wanted (Some kind) found = eqb kind found
 
 -- a box that is wanted ends a walk, another one leads to the next, and all else ends it
-unfoldable pub onward : ℕ → (ℕ → Walked) → Walked → Walked
+unfoldable pub onward : Option ℕ → (ℕ → Walked) → Walked → Walked
 onward kind rest (Found h) = cond (wanted kind h.kind) (Found h) (rest (h.at + h.size))
 onward kind rest (Beyond h) = Beyond h
 onward kind rest (Small h) = Small h
@@ -53,10 +54,10 @@ onward kind rest (Cut at) = Cut at
 onward kind rest End = End
 
 -- the walk from a position on, over fewer boxes than the first number
-unfoldable pub walked_from : ℕ → List ℕ → ℕ → ℕ → ℕ → Walked
+unfoldable pub walked_from : ℕ → List ℕ → ℕ → Option ℕ → ℕ → Walked
 walked_from zero s room kind at = End
 walked_from (suc n) s room kind at = onward kind (walked_from n s room kind) (box_at s room at)
 
 -- a box takes bytes of the room, so there are no more boxes than bytes
-abbrev pub walked : List ℕ → ℕ → ℕ → Walked
+abbrev pub walked : List ℕ → ℕ → Option ℕ → Walked
 walked s room kind = walked_from (suc room) s room kind 0

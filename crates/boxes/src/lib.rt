@@ -5,9 +5,6 @@ ghost use Rattle.std.specs.Prelude.{◌≡◌, ◌+◌, ◌≤◌, ◌<◌, leng
 ghost use Rattle.boxes.specs.Boxes.{word_at, long_word_at, whole_of, wanted, fitted, long_box, box_at, walked};
 ghost use Rattle.boxes.specs.Placed.{Placed};
 
-// The kind that stands for a box of any kind.
-pub const ANY: u32 = 0;
-
 // A box by its header: where it starts, its four letters as one number, how long the header is, and how large the whole box claims to be.
 #[derive(Clone, Copy)]
 pub struct Header {
@@ -34,15 +31,6 @@ pub enum Walked {
     End,
 }
 
-// A byte, and that it is one.
-fn byte_at(part: &[u8], at: usize) -> u32
-    requires { at < length part.now }
-    ensures value { result ≡ get_or part.now at 0 }
-    ensures upper_bound { result < 256 }
-{
-    part[at] as u32
-}
-
 // The number that four bytes write, the high one first.
 #[tactic(auto, unfolding(crate::specs::Boxes::word_at))]
 pub fn word_at(part: &[u8], at: u64) -> u32
@@ -50,11 +38,7 @@ pub fn word_at(part: &[u8], at: u64) -> u32
     ensures { result ≡ word_at part.now at }
 {
     let i = at as usize;
-    let b0 = byte_at(part, i);
-    let b1 = byte_at(part, i + 1);
-    let b2 = byte_at(part, i + 2);
-    let b3 = byte_at(part, i + 3);
-    ((b0 * 256 + b1) * 256 + b2) * 256 + b3
+    u32::from_be_bytes([part[i], part[i + 1], part[i + 2], part[i + 3]])
 }
 
 // The number that eight bytes write.
@@ -62,29 +46,21 @@ fn long_word_at(part: &[u8], at: u64) -> u64
     requires { at + 8 ≤ length part.now }
     ensures { result ≡ long_word_at part.now at }
 {
-    let high = word_at(part, at) as u64;
-    let low = word_at(part, at + 4) as u64;
-    high * 4294967296 + low
+    (u64::from(word_at(part, at)) << 32) | u64::from(word_at(part, at + 4))
 }
 
-// Whether a box is looked for.
-fn is_wanted(kind: u32, found: u32) -> bool
+// Whether a box is looked for, where none stands for a box of any kind.
+fn is_wanted(kind: Option<u32>, found: u32) -> bool
     ensures { result ≡ wanted kind found }
 {
-    if kind == ANY {
-        return true;
-    }
-    kind == found
+    kind.is_none_or(|k| k == found)
 }
 
 // A size of 0 means all that is left.
 fn whole_of(size: u32, left: u64) -> u64
     ensures { result ≡ whole_of size left }
 {
-    if size == 0 {
-        return left;
-    }
-    size as u64
+    if size == 0 { left } else { u64::from(size) }
 }
 
 // Whether the claim of a header holds.
@@ -92,14 +68,13 @@ fn whole_of(size: u32, left: u64) -> u64
 fn fitted(h: Header, left: u64) -> Walked
     ensures { result ≡ fitted h left }
 {
-    let size = h.size;
-    if size < h.length {
-        return Walked::Small(h);
+    if h.size < h.length {
+        Walked::Small(h)
+    } else if left < h.size {
+        Walked::Beyond(h)
+    } else {
+        Walked::Found(h)
     }
-    if left < size {
-        return Walked::Beyond(h);
-    }
-    Walked::Found(h)
 }
 
 // The box at a position whose size is written in 64 bits, after the letters.
@@ -156,9 +131,9 @@ fn box_at(part: &[u8], at: u64, room: u64) -> Walked
     fitted(h, left)
 }
 
-// The first box of a kind. `part` are the bytes that were read from where the first box starts, and `room` is how many bytes there are from there
+// The first box of a kind, or of any. `part` are the bytes that were read from where the first box starts, and `room` is how many bytes there are from there
 // to the end of what holds the boxes.
-pub fn walk(part: &[u8], room: u64, kind: u32) -> Walked
+pub fn walk(part: &[u8], room: u64, kind: Option<u32>) -> Walked
     ensures value { result ≡ walked part.now room kind }
     ensures placed { Placed (length part.now) room result }
 {

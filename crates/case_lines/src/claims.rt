@@ -6,57 +6,56 @@ ghost use Rattle.judge.specs.Judge.{judgement};
 use crate::pictures::ROOM;
 use case_words::plane;
 use corkplover::judging;
-use judge::Judgement;
+use judge::Difference;
+use planes::three::Planes;
+use refusal::Refusal;
 use rows::paint::Size;
 use setting::{Setting, Way};
 use std::io;
+use text::reading::Words;
 
 fn judged(
     way: Way,
     s: Setting,
     z: Size,
-    a0: &[u16],
-    a1: &[u16],
-    a2: &[u16],
-    b0: &[u16],
-    b1: &[u16],
-    b2: &[u16],
-) -> Judgement
-    ensures { result ≡ judgement way s (input_picture z a0.now a1.now a2.now)
-        (output_picture z b0.now b1.now b2.now) }
+    a: Planes<'_>,
+    b: Planes<'_>,
+) -> Result<Option<Difference>, Refusal>
+    ensures { result ≡ judgement way s (input_picture z a.entry.p0.now a.entry.p1.now a.entry.p2.now)
+        (output_picture z b.entry.p0.now b.entry.p1.now b.entry.p2.now) }
 {
     match way {
-        Way::Forward => judging::judge_forward(s, z, a0, a1, a2, b0, b1, b2),
-        Way::Reverse => judging::judge_reverse(s, z, a0, a1, a2, b0, b1, b2),
+        Way::Forward => judging::judge_forward(s, z, a.p0, a.p1, a.p2, b.p0, b.p1, b.p2),
+        Way::Reverse => judging::judge_reverse(s, z, a.p0, a.p1, a.p2, b.p0, b.p1, b.p2),
     }
 }
 
 // The claimed planes, with which the line ends.
 pub fn judge(
     rt: &impl Print,
-    line: &[u8],
-    at: usize,
+    words: Words<'_>,
     way: Way,
     s: Setting,
     z: Size,
-    a0: &[u16],
-    a1: &[u16],
-    a2: &[u16],
+    a: Planes<'_>,
 ) -> io::Result<()> {
+    let mut words = words;
     let mut b0 = [0u16; ROOM];
     let mut b1 = [0u16; ROOM];
     let mut b2 = [0u16; ROOM];
-    let p0 = plane(line, at, &mut b0);
-    let p1 = plane(line, p0.next, &mut b1);
-    let p2 = plane(line, p1.next, &mut b2);
-    if p2.next != line.len() {
-        return answer_lines::bad_line(rt);
+    let n0 = plane(&mut words, &mut b0);
+    let n1 = plane(&mut words, &mut b1);
+    let n2 = plane(&mut words, &mut b2);
+    match (n0, n1, n2) {
+        (Some(n0), Some(n1), Some(n2)) if words.text.is_empty() => {
+            let b = Planes {
+                p0: &b0[..n0],
+                p1: &b1[..n1],
+                p2: &b2[..n2],
+            };
+            let j = judged(way, s, z, a, b);
+            answer_lines::judgement(rt, j)
+        }
+        _ => answer_lines::bad_line(rt),
     }
-    let l0 = p0.length;
-    let l1 = p1.length;
-    let l2 = p2.length;
-    answer_lines::judgement(
-        rt,
-        judged(way, s, z, a0, a1, a2, &b0[..l0], &b1[..l1], &b2[..l2]),
-    )
 }

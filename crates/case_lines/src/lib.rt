@@ -12,73 +12,76 @@ use crate::pictures::FrameTask;
 use case_words::{GAP, RANGES};
 use codes::label::CodeKind;
 use meter::SampleKind;
-use request::form;
-use request::form::Asked;
+use request::form::{Behind, Fault};
+use request::{Request, form};
 use setting::{Call, Way};
 use std::io;
-use text::reading;
+use text::reading::{Words, number_in};
 
-fn asked(rt: &impl Print, a: Asked) -> io::Result<()> {
-    match a {
-        Asked::For(request) => answer_lines::answer(rt, ask::ask(request)),
-        Asked::Fault {
-            word: _,
-            expected: _,
-        } => answer_lines::bad_line(rt),
+// What a line asks of an edition: about a pixel, a sample, a code, a frame or an image.
+#[derive(Clone, Copy)]
+enum Task {
+    Pixel(Call),
+    Sample(SampleKind),
+    Label(CodeKind),
+    Frame(FrameTask, Way),
+    Image,
+}
+
+fn asked(rt: &impl Print, request: Result<Request, Fault>) -> io::Result<()> {
+    match request {
+        Ok(request) => answer_lines::answer(rt, ask::ask(request)),
+        Err(_) => answer_lines::bad_line(rt),
     }
-}
-
-fn on_pixel(rt: &impl Print, words: &[u8], edition: u8, call: Call) -> io::Result<()> {
-    asked(rt, form::pixel_form(call, edition, words, GAP, &RANGES))
-}
-
-fn on_sample(rt: &impl Print, words: &[u8], edition: u8, kind: SampleKind) -> io::Result<()> {
-    asked(rt, form::sample_form(kind, edition, words, GAP, &RANGES, 9))
-}
-
-fn on_label(rt: &impl Print, words: &[u8], edition: u8, kind: CodeKind) -> io::Result<()> {
-    asked(rt, form::label_form(kind, edition, words, GAP, 1))
 }
 
 // A line by what it asks, and its words from the edition on.
-fn on_words(rt: &impl Print, asked: usize, words: &[u8], edition: u8) -> io::Result<()> {
-    match asked {
-        0 => on_pixel(rt, words, edition, Call::Convert(Way::Forward)),
-        1 => on_pixel(rt, words, edition, Call::Convert(Way::Reverse)),
-        2 => on_pixel(rt, words, edition, Call::ImageCheck),
-        3 => on_pixel(rt, words, edition, Call::Meter),
-        4 => on_sample(rt, words, edition, SampleKind::Y),
-        5 => on_sample(rt, words, edition, SampleKind::Cb),
-        6 => on_sample(rt, words, edition, SampleKind::Cr),
-        7 => on_label(rt, words, edition, CodeKind::Primaries),
-        8 => on_label(rt, words, edition, CodeKind::Transfer),
-        9 => on_label(rt, words, edition, CodeKind::Matrix),
-        10 => pictures::on_frame(rt, words, edition, FrameTask::Convert(Way::Forward)),
-        11 => pictures::on_frame(rt, words, edition, FrameTask::Convert(Way::Reverse)),
-        12 => pictures::on_image(rt, words, edition),
-        13 => pictures::on_frame(rt, words, edition, FrameTask::Judge(Way::Forward)),
-        14 => pictures::on_frame(rt, words, edition, FrameTask::Judge(Way::Reverse)),
-        _ => answer_lines::bad_line(rt),
+fn on_words(rt: &impl Print, task: Task, words: Words<'_>, edition: u8) -> io::Result<()> {
+    match task {
+        Task::Pixel(call) => asked(rt, form::pixel_form(call, edition, words, RANGES)),
+        Task::Sample(kind) => asked(
+            rt,
+            form::sample_form(kind, edition, words, RANGES, Behind::Setting),
+        ),
+        Task::Label(kind) => asked(rt, form::label_form(kind, edition, words, 1)),
+        Task::Frame(task, way) => pictures::on_frame(rt, words, edition, task, way),
+        Task::Image => pictures::on_image(rt, words, edition),
     }
 }
 
-// A line that asks of a setting or of a code: word 1 is the number of the edition.
-fn on_edition(rt: &impl Print, line: &[u8], asked: usize) -> io::Result<()> {
-    let edition = form::number_word(line, GAP, 1, form::LARGEST_BYTE, form::CLEAR);
-    if edition.fault != form::CLEAR {
-        return answer_lines::bad_line(rt);
+// A line that asks of a setting or of a code: its first word now is the number of the edition.
+fn on_edition(rt: &impl Print, task: Task, words: Words<'_>) -> io::Result<()> {
+    match number_in(words.first(), form::LARGEST_BYTE) {
+        Some(edition) => on_words(rt, task, words, edition as u8),
+        None => answer_lines::bad_line(rt),
     }
-    let number = edition.value as u8;
-    on_words(rt, asked, reading::words_from(line, GAP, 1), number)
 }
 
-// Word 0 says what is asked.
-fn on_line(rt: &impl Print, line: &[u8]) -> io::Result<()> {
-    let asked = reading::place_at(line, GAP, 0, b"f r s m y b c p t x F R I J K N W P");
-    if asked < 15 {
-        return on_edition(rt, line, asked);
-    }
-    records::on_record(rt, asked - 15, line)
+// The first word says what is asked.
+fn on_line(rt: &impl Print, line: Words<'_>) -> io::Result<()> {
+    let words = line.rest();
+    let task = match line.first() {
+        b"N" => return records::on_read(rt, words),
+        b"W" => return records::on_write(rt, words),
+        b"P" => return records::on_pick(rt, words),
+        b"f" => Task::Pixel(Call::Convert(Way::Forward)),
+        b"r" => Task::Pixel(Call::Convert(Way::Reverse)),
+        b"s" => Task::Pixel(Call::ImageCheck),
+        b"m" => Task::Pixel(Call::Meter),
+        b"y" => Task::Sample(SampleKind::Y),
+        b"b" => Task::Sample(SampleKind::Cb),
+        b"c" => Task::Sample(SampleKind::Cr),
+        b"p" => Task::Label(CodeKind::Primaries),
+        b"t" => Task::Label(CodeKind::Transfer),
+        b"x" => Task::Label(CodeKind::Matrix),
+        b"F" => Task::Frame(FrameTask::Convert, Way::Forward),
+        b"R" => Task::Frame(FrameTask::Convert, Way::Reverse),
+        b"I" => Task::Image,
+        b"J" => Task::Frame(FrameTask::Judge, Way::Forward),
+        b"K" => Task::Frame(FrameTask::Judge, Way::Reverse),
+        _ => return answer_lines::bad_line(rt),
+    };
+    on_edition(rt, task, words)
 }
 
 // Room for the text of all cases.
@@ -90,10 +93,14 @@ pub fn room() -> [u8; 1400000]
 
 // Every line.
 pub fn all(rt: &impl Print, text: &[u8]) -> io::Result<()> {
-    let mut at = 0;
-    while at < text.len() {
-        on_line(rt, reading::word_from(text, b'\n', at))?;
-        at = reading::next_of(text, b'\n', at);
+    let mut lines = Words { text, gap: b'\n' };
+    while !lines.text.is_empty() {
+        let line = Words {
+            text: lines.first(),
+            gap: GAP,
+        };
+        on_line(rt, line)?;
+        lines = lines.rest();
     }
     Ok(())
 }

@@ -1,39 +1,41 @@
 // Cases on colour records: bytes as numbers, after how many there are. They have no edition.
 use case_words::records::{ROOM, record_at};
-use case_words::{GAP, next_number};
 use corkplover::records;
 use nclx::ColourLabel;
 use request::form;
 use std::io;
-use text::reading;
+use text::reading::Words;
 
-fn on_read(rt: &impl Print, line: &[u8]) -> io::Result<()> {
+// A record that is read.
+pub fn on_read(rt: &impl Print, words: Words<'_>) -> io::Result<()> {
+    let mut words = words;
     let mut bytes = [0u8; ROOM];
-    let read = record_at(line, reading::start_of(line, GAP, 1), &mut bytes);
-    if read.next != line.len() {
-        return answer_lines::bad_line(rt);
+    match record_at(&mut words, &mut bytes) {
+        Some(n) if words.text.is_empty() => {
+            answer_lines::label_read(rt, records::read_label(&bytes[..n]))
+        }
+        _ => answer_lines::bad_line(rt),
     }
-    let n = read.length;
-    answer_lines::label_read(rt, records::read_label(&bytes[..n]))
 }
 
-fn on_write(rt: &impl Print, line: &[u8]) -> io::Result<()> {
-    let at = reading::start_of(line, GAP, 1);
-    let primaries = next_number(line, at, form::LARGEST_BYTE);
-    let transfer = next_number(line, primaries.next, form::LARGEST_BYTE);
-    let matrix = next_number(line, transfer.next, form::LARGEST_BYTE);
-    let full = next_number(line, matrix.next, 1);
-    if full.next != line.len() {
-        return answer_lines::bad_line(rt);
+// A label that is written, by its four words.
+pub fn on_write(rt: &impl Print, words: Words<'_>) -> io::Result<()> {
+    let primaries = words.number(0, form::LARGEST_BYTE);
+    let transfer = words.number(1, form::LARGEST_BYTE);
+    let matrix = words.number(2, form::LARGEST_BYTE);
+    let full = words.number(3, 1);
+    match (primaries, transfer, matrix, full) {
+        (Some(primaries), Some(transfer), Some(matrix), Some(full)) if !words.has_word(4) => {
+            let label = ColourLabel {
+                primaries: primaries as u8,
+                transfer: transfer as u8,
+                matrix: matrix as u8,
+                full: full == 1,
+            };
+            answer_lines::record(rt, &records::write_label(label))
+        }
+        _ => answer_lines::bad_line(rt),
     }
-    let label = ColourLabel {
-        primaries: primaries.value as u8,
-        transfer: transfer.value as u8,
-        matrix: matrix.value as u8,
-        full: full.value == 1,
-    };
-    let bytes = records::write_label(label);
-    answer_lines::record(rt, &bytes)
 }
 
 // Who wins, and the part of it that is lent.
@@ -43,25 +45,15 @@ fn picked<'a>(rt: &impl Print, container: &'a [u8], stream: &'a [u8]) -> io::Res
     answer_lines::choice(rt, records::pick_label(container, stream), number, part)
 }
 
-fn on_pick(rt: &impl Print, line: &[u8]) -> io::Result<()> {
+// One of two records that is picked.
+pub fn on_pick(rt: &impl Print, words: Words<'_>) -> io::Result<()> {
+    let mut words = words;
     let mut container = [0u8; ROOM];
     let mut stream = [0u8; ROOM];
-    let first = record_at(line, reading::start_of(line, GAP, 1), &mut container);
-    let second = record_at(line, first.next, &mut stream);
-    if second.next != line.len() {
-        return answer_lines::bad_line(rt);
-    }
-    let n = first.length;
-    let m = second.length;
-    picked(rt, &container[..n], &stream[..m])
-}
-
-// A line by what it asks: a record read, a label written, or one of two records picked.
-pub fn on_record(rt: &impl Print, asked: usize, line: &[u8]) -> io::Result<()> {
-    match asked {
-        0 => on_read(rt, line),
-        1 => on_write(rt, line),
-        2 => on_pick(rt, line),
+    let first = record_at(&mut words, &mut container);
+    let second = record_at(&mut words, &mut stream);
+    match (first, second) {
+        (Some(n), Some(m)) if words.text.is_empty() => picked(rt, &container[..n], &stream[..m]),
         _ => answer_lines::bad_line(rt),
     }
 }

@@ -1,73 +1,71 @@
 -- A line with planes: its sizes are words by their number, its planes are numbers read one after the other, each where the one before ended.
-use Rattle.std.specs.Prelude.{List, [], ◌∷◌, ◌++◌, ℕ, zero, suc, ◌+◌, ◌*◌, ◌-◌, ◌%◌, ◌^◌, length as size, get_or, drop, replicate}
+use Rattle.std.specs.Prelude.{Bool, true, false, List, [], ◌∷◌, ◌++◌, ℕ, zero, suc, ◌+◌, ◌*◌, ◌-◌, ◌%◌, ◌^◌, length as size, get_or, drop, replicate, Option, Some, None, Result, Ok, option_and_then, cond}
 use Rattle.tables.specs.Table.{tab}
-use Rattle.text.specs.Words.{word_of, next_of}
+use Rattle.text.specs.Words.{word_of, rest_of}
 use Rattle.text.specs.Numerals.{number_of}
-use Rattle.text.specs.declared.reading.Number.{Number}
-use Rattle.text.specs.declared.reading.Number.TheVariants as number
-use Rattle.request.specs.Form.{largest_sample, number_word, setting_words}
-use Rattle.request.specs.declared.form.ReadNumber.{ReadNumber}
-use Rattle.case_words.specs.declared.Step.{Step}
-use Rattle.case_words.specs.declared.ReadPlane.{ReadPlane}
-use Rattle.case_words.specs.declared.ReadPicture.{ReadPicture}
+use Rattle.request.specs.Form.{largest_sample, number_word, setting_words, next}
+use Rattle.case_words.specs.declared.Picture.{Picture}
 
--- a blank stands between words, and the ranges are called 0 and 1
-abbrev pub gap : ℕ
-gap = 32
+-- the ranges are called 0 and 1
+abbrev pub narrow : List ℕ
+narrow = 48 ∷ []
 
-abbrev pub ranges : List ℕ
-ranges = 48 ∷ 32 ∷ 49 ∷ []
+abbrev pub full : List ℕ
+full = 49 ∷ []
 
--- the largest number of 64 bits: the largest size that a word may say, and no position of a line
+-- the largest number of 64 bits: the largest size that a word may say
 abbrev pub largest : ℕ
 largest = 2 ^ 64 - 1
 
 -- word n as a width, a height or a stride
-abbrev pub size_word : List ℕ → ℕ → ℕ → ReadNumber
-size_word line n fault = number_word gap line n largest fault
+abbrev pub size_word : ℕ → List ℕ → ℕ → Result ℕ ℕ
+size_word gap line n = number_word gap line n largest
 
 -- words 1 to 11
-unfoldable pub picture_words : List ℕ → ℕ → ReadPicture
-picture_words line edition =
-    let w = setting_words edition gap line ranges in
-    let width = size_word line 9 w.fault in
-    let height = size_word line 10 width.fault in
-    let stride = size_word line 11 height.fault in
-    record {
-      setting = w.setting;
-      width = width.value;
-      height = height.value;
-      stride = stride.value;
-      fault = stride.fault;
-    }
+unfoldable pub picture_words : ℕ → List ℕ → ℕ → Result Picture ℕ
+picture_words gap line edition =
+    next (setting_words edition gap line narrow full) (λ w.
+    next (size_word gap line 9) (λ width.
+    next (size_word gap line 10) (λ height.
+    next (size_word gap line 11) (λ stride.
+    Ok (record { setting = w; width = width; height = height; stride = stride })))))
 
--- the number at a position, and the position after it; after a word that is no such number there is none
-abbrev pub stepped : ℕ → Number → Step
-stepped next (number.Value v) = record { value = v; next = next }
-stepped next number.Nothing = record { value = 0; next = largest }
+-- so many samples, with which a text begins: themselves, whether all of them are samples, and what stands behind them
+pub record Read : Type 0 where
+  pub samples : List ℕ
+  pub all : Bool
+  pub rest : List ℕ
 
-abbrev pub step_at : List ℕ → ℕ → ℕ → Step
-step_at line at most = stepped (next_of gap line at) (number_of (word_of gap (drop at line) 0) most)
+-- from a word that is none on the samples are zeros
+abbrev pub read_on : Option ℕ → ℕ → Read → Read
+read_on (Some v) n more = record { samples = v ∷ more.samples; all = more.all; rest = more.rest }
+read_on None n more = record { samples = replicate (suc n) 0; all = false; rest = more.rest }
 
--- the position after n samples, and the sample there
-unfoldable pub position_after : List ℕ → ℕ → ℕ → ℕ
-position_after line at zero = at
-position_after line at (suc n) = (step_at line (position_after line at n) largest_sample).next
+unfoldable pub read : ℕ → List ℕ → ℕ → Read
+read gap s zero = record { samples = []; all = true; rest = s }
+read gap s (suc n) = read_on (number_of (word_of gap s 0) largest_sample) n (read gap (rest_of gap s) n)
 
-abbrev pub sample_after : List ℕ → ℕ → ℕ → ℕ
-sample_after line at n = (step_at line (position_after line at n) largest_sample).value
+-- a plane says its length first; there is none where a word is at fault
+abbrev pub length_at : ℕ → List ℕ → ℕ → Option ℕ
+length_at gap s room = number_of (word_of gap s 0) room
 
--- a plane, which says its length first: that, and where it ends
-unfoldable pub plane_at : List ℕ → ℕ → ℕ → ReadPlane
-plane_at line at room =
-    let count = step_at line at room in
-    record { length = count.value; next = position_after line count.next count.value }
+abbrev pub plane_of : ℕ → List ℕ → ℕ → Option ℕ
+plane_of gap s n = cond (read gap (rest_of gap s) n).all (Some n) None
+
+abbrev pub plane_at : ℕ → List ℕ → ℕ → Option ℕ
+plane_at gap s room = option_and_then (plane_of gap s) (length_at gap s room)
+
+-- what stands behind it
+abbrev pub plane_rest : ℕ → List ℕ → ℕ → List ℕ
+plane_rest gap s n = (read gap (rest_of gap s) n).rest
 
 -- its samples, before what stood behind them in a buffer
-unfoldable pub plane_over : List ℕ → ℕ → List ℕ → List ℕ
-plane_over line at out =
-    let count = step_at line at (size out) in
-    tab count.value (sample_after line count.next) ++ drop count.value out
+abbrev pub over : ℕ → List ℕ → List ℕ → Option ℕ → List ℕ
+over gap s out (Some n) = (read gap (rest_of gap s) n).samples ++ drop n out
+over gap s out None = out
+
+abbrev pub plane_over : ℕ → List ℕ → List ℕ → List ℕ
+plane_over gap s out = over gap s out (length_at gap s (size out))
 
 -- a record is read as a plane is; its numbers are bytes then, with zeros behind them
 abbrev pub record_room : ℕ
@@ -76,8 +74,8 @@ record_room = 300
 abbrev pub low_byte : List ℕ → ℕ → ℕ
 low_byte numbers i = get_or numbers i 0 % 256
 
-unfoldable pub record_over : List ℕ → ℕ → ℕ → List ℕ
-record_over line at n = tab n (low_byte (plane_over line at (replicate record_room 0)))
+unfoldable pub record_over : ℕ → List ℕ → ℕ → List ℕ
+record_over gap s n = tab n (low_byte (plane_over gap s (replicate record_room 0)))
 
 -- what an output plane of n elements holds before the call
 abbrev pub old_sample : ℕ → ℕ → ℕ

@@ -2,95 +2,76 @@
 // they start, and not word by number.
 #![tactic(auto)]
 
-ghost use Rattle.std.specs.Prelude.{◌≡◌, ◌≤◌, length};
-ghost use Rattle.case_words.specs.Lines.{size_word, picture_words, step_at, plane_at, plane_over, old_plane};
+ghost use Rattle.std.specs.Prelude.{◌≡◌, ◌≤◌, length, is_some, IfSome};
+ghost use Rattle.text.specs.Words.{After, word_of};
+ghost use Rattle.text.specs.Numerals.{number_of};
+ghost use Rattle.case_words.specs.Lines.{size_word, picture_words, read, plane_at, plane_over, plane_rest, old_plane};
 
 pub mod records;
 
 use request::form;
-use request::form::ReadNumber;
+use request::form::RangeNames;
 use setting::Setting;
-use text::reading;
-use text::reading::Number;
+use text::reading::{Words, number_in};
 
 // The byte between two words of a line.
 pub const GAP: u8 = b' ';
 
 // The names of the two ranges.
-pub const RANGES: [u8; 3] = *b"0 1";
-
-// The largest number of 64 bits.
-const LARGEST: u64 = 18446744073709551615;
+pub const RANGES: RangeNames<'static> = RangeNames {
+    narrow: b"0",
+    full: b"1",
+};
 
 // How many samples there are that a word may say.
 const SAMPLES: u64 = sample::PAST_SAMPLES;
 
-// No position of a line: reading stopped at a word that is no number, or too large a one.
-const STOPPED: usize = LARGEST as usize;
-
-// A number, and the position after it.
+// What a line has before its planes.
 #[derive(Clone, Copy)]
-pub struct Step {
-    pub value: u64,
-    pub next: usize,
-}
-
-#[derive(Clone, Copy)]
-pub struct ReadPlane {
-    pub length: usize,
-    pub next: usize,
-}
-
-// What a line has before its planes, and the first word at fault.
-#[derive(Clone, Copy)]
-pub struct ReadPicture {
+pub struct Picture {
     pub setting: Setting,
     pub width: usize,
     pub height: usize,
     pub stride: usize,
-    pub fault: u8,
 }
 
-pub fn next_number(line: &[u8], at: usize, most: u64) -> Step
-    ensures value { result ≡ step_at line.now at most }
-    ensures value_le_most { result.value ≤ most }
+// The number that comes next, which is left behind.
+pub fn next_number(words: &mut Words<'_>, most: u64) -> Option<u64>
+    ensures value { result ≡ number_of (word_of words.old.gap words.old.text.now 0) most }
+    ensures value_le_most { IfSome result (λ v. v ≤ most) }
+    ensures after { After words.old.gap words.old.text.now words.new.text.now }
+    ensures gap { words.new.gap ≡ words.old.gap }
 {
-    match reading::number_from(line, GAP, at, most) {
-        Number::Value(value) => Step {
-            value,
-            next: reading::next_of(line, GAP, at),
-        },
-        Number::Nothing => Step {
-            value: 0,
-            next: STOPPED,
-        },
+    let word = words.first();
+    *words = words.rest();
+    number_in(word, most)
+}
+
+// So many samples as there is room for, one after the other. From a word that is none on, zeros are left.
+fn samples(words: &mut Words<'_>, out: &mut [u16]) -> Option<()>
+    ensures out_after { out.new ≡ (read words.old.gap words.old.text.now (length out.old)).samples }
+    ensures all { is_some result ≡ (read words.old.gap words.old.text.now (length out.old)).all }
+    ensures rest { IfSome result (λ u. words.new.text.now ≡ (read words.old.gap words.old.text.now (length out.old)).rest) }
+    ensures gap { words.new.gap ≡ words.old.gap }
+{
+    out.fill(0);
+    for i in 0..out.len() {
+        out[i] = next_number(words, form::LARGEST_SAMPLE)? as u16;
     }
+    Some(())
 }
 
-// A plane: its length and then its elements.
-pub fn plane(line: &[u8], at: usize, out: &mut [u16]) -> ReadPlane
-    ensures value { result ≡ plane_at line.now at (length out.old) }
-    ensures length_in_bounds { result.length ≤ length out.old }
-    ensures out_after { out.new ≡ plane_over line.now at out.old }
+// A plane: its length and then its samples, as many as it says.
+pub fn plane(words: &mut Words<'_>, out: &mut [u16]) -> Option<usize>
+    ensures value { result ≡ plane_at words.old.gap words.old.text.now (length out.old) }
+    ensures length_in_bounds { IfSome result (λ n. n ≤ length out.old) }
+    ensures out_after { out.new ≡ plane_over words.old.gap words.old.text.now out.old }
+    ensures rest { IfSome result (λ n. words.new.text.now ≡ plane_rest words.old.gap words.old.text.now n) }
+    ensures gap { words.new.gap ≡ words.old.gap }
 {
-    let count = next_number(line, at, out.len() as u64);
-    let length = count.value as usize;
-    let mut next = count.next;
-    let mut i: usize = 0;
-    while i < length {
-        let one = next_number(line, next, form::LARGEST_SAMPLE);
-        out[i] = one.value as u16;
-        next = one.next;
-        i += 1;
-    }
-    ReadPlane { length, next }
-}
-
-// A width, a height or a stride.
-pub fn size_at(line: &[u8], n: u8, fault: u8) -> ReadNumber
-    ensures { result ≡ size_word line.now n fault }
-{
-    form::number_word(line, GAP, n, LARGEST, fault)
+    let length = next_number(words, out.len() as u64)? as usize;
+    samples(words, &mut out[..length])?;
+    Some(length)
 }
 
 // Old contents, which must never show.
@@ -98,28 +79,28 @@ pub fn old_contents(fill: u64, out: &mut [u16])
     ensures { out.new ≡ old_plane fill (length out.old) }
 {
     let mut v = fill % SAMPLES;
-    let mut i: usize = 0;
-    while i < out.len() {
+    for i in 0..out.len() {
         out[i] = v as u16;
         v = (v + 7919) % SAMPLES;
-        i += 1;
     }
 }
 
-// Words 1 to 11: the setting, and the sizes that every picture has.
-pub fn picture_words(line: &[u8], edition: u8) -> ReadPicture
-    ensures { result ≡ picture_words line.now edition }
+// A width, a height or a stride.
+pub fn size_word(words: Words<'_>, n: u8) -> Result<usize, u8>
+    ensures { result ≡ size_word words.entry.gap words.entry.text.now n }
 {
-    let w = form::setting_words(edition, line, GAP, &RANGES);
-    let setting = w.setting;
-    let width = size_at(line, 9, w.fault);
-    let height = size_at(line, 10, width.fault);
-    let stride = size_at(line, 11, height.fault);
-    ReadPicture {
-        setting,
-        width: width.value as usize,
-        height: height.value as usize,
-        stride: stride.value as usize,
-        fault: stride.fault,
-    }
+    Ok(form::number_word(words, n, u64::MAX)? as usize)
+}
+
+// Words 1 to 11: the setting, and the sizes that every picture has.
+#[tactic(auto, unfolding(crate::specs::Lines::picture_words))]
+pub fn picture_words(words: Words<'_>, edition: u8) -> Result<Picture, u8>
+    ensures { result ≡ picture_words words.entry.gap words.entry.text.now edition }
+{
+    Ok(Picture {
+        setting: form::setting_words(edition, words, RANGES)?,
+        width: size_word(words, 9)?,
+        height: size_word(words, 10)?,
+        stride: size_word(words, 11)?,
+    })
 }

@@ -1,23 +1,26 @@
 // The records of a case line: bytes as numbers, after how many there are, read as a plane is.
-ghost use Rattle.std.specs.Prelude.{◌≡◌, ◌≤◌, length};
+ghost use Rattle.std.specs.Prelude.{◌≡◌, ◌≤◌, length, IfSome};
 ghost use Rattle.tables.specs.Table.{tab};
-ghost use Rattle.case_words.specs.Lines.{plane_at, record_room, low_byte, record_over};
+ghost use Rattle.case_words.specs.Lines.{plane_at, plane_rest, record_room, low_byte, record_over};
 
-use crate::{ReadPlane, plane};
+use crate::plane;
+use text::reading::Words;
 
 // The longest record that there is room for.
 pub const ROOM: usize = 300;
 
+// A number as a byte, or 0 where there is none.
 fn low_byte(numbers: &[u16], i: usize) -> u8
     ensures { result ≡ low_byte numbers.now i }
 {
     if i < numbers.len() {
-        return (numbers[i] % 256) as u8;
+        (numbers[i] % 256) as u8
+    } else {
+        0
     }
-    0
 }
 
-// Numbers as bytes. A case has no number above 255.
+// Numbers as bytes, with zeros behind them. A case has no number above 255.
 fn bytes_of(numbers: &[u16], out: &mut [u8])
     ensures { out.new ≡ tab (length out.old) (low_byte numbers.now) }
 {
@@ -27,13 +30,15 @@ fn bytes_of(numbers: &[u16], out: &mut [u8])
 }
 
 // A record: its length and then its bytes.
-pub fn record_at(line: &[u8], at: usize, out: &mut [u8]) -> ReadPlane
-    ensures value { result ≡ plane_at line.now at record_room }
-    ensures length_le_record_room { result.length ≤ record_room }
-    ensures out_after { out.new ≡ record_over line.now at (length out.old) }
+pub fn record_at(words: &mut Words<'_>, out: &mut [u8]) -> Option<usize>
+    ensures value { result ≡ plane_at words.old.gap words.old.text.now record_room }
+    ensures length_le_record_room { IfSome result (λ n. n ≤ record_room) }
+    ensures out_after { out.new ≡ record_over words.old.gap words.old.text.now (length out.old) }
+    ensures rest { IfSome result (λ n. words.new.text.now ≡ plane_rest words.old.gap words.old.text.now n) }
+    ensures gap { words.new.gap ≡ words.old.gap }
 {
     let mut numbers = [0u16; ROOM];
-    let read = plane(line, at, &mut numbers);
+    let read = plane(words, &mut numbers);
     bytes_of(&numbers, out);
     read
 }

@@ -1,4 +1,5 @@
 -- What holds of every matrix in the tables of all editions, and of one that is reserved, holds of every code's in each edition.
+use Rattle.std.specs.Prelude.{Option, Some, None}
 use mathlib.Core.Path.{◌≡◌, sym}
 use mathlib.Core.List.{List, [], ◌∷◌, ◌++◌}
 use Prim.Native.Nat.{ℕ, zero, suc, ◌≤◌}
@@ -7,8 +8,6 @@ use Rattle.codes.specs.Matrix.{common, added, matrix_of}
 use Rattle.codes.specs.Standing.{matrix_by}
 use Rattle.codes.specs.declared.edition.Edition.{Edition}
 use Rattle.codes.specs.declared.edition.Edition.TheVariants.{Of2021, Draft, Published}
-use Rattle.codes.specs.declared.edition.EditionChecked.{EditionChecked}
-use Rattle.codes.specs.declared.edition.EditionChecked.TheVariants as edition
 use Rattle.codes.specs.declared.matrix.Matrix.{Matrix}
 use Rattle.codes.specs.declared.matrix.Matrix.TheVariants.{Reserved}
 
@@ -39,12 +38,12 @@ own P Of2021 h = tt
 own P Draft h = (split P (added Draft) (added Published) h).0
 own P Published h = (split P (added Draft) (added Published) h).1
 
-pub at_code : (P : Matrix → Type 0) → P Reserved → Each P rows → (e : EditionChecked) (code : ℕ) → P (matrix_by e code)
+pub at_code : (P : Matrix → Type 0) → P Reserved → Each P rows → (e : Option Edition) (code : ℕ) → P (matrix_by e code)
 unfolding matrix_of
-at_code P r h (edition.Edition e) code =
+at_code P r h (Some e) code =
     let t = split P common (added Of2021 ++ (added Draft ++ added Published)) h in
     at P r (common ++ added e) code (joined P common (added e) t.0 (own P e t.1))
-at_code P r h edition.Unknown code = r
+at_code P r h None code = r
 
 -- past the end of an edition's table every code is reserved
 pub past_end : (e : Edition) (code : ℕ) → length (common ++ added e) ≤ code → Reserved ≡ matrix_of e code

@@ -1,14 +1,12 @@
 -- H.273's table 4: the matrix of each code, as an entry of data. The editions have codes 0 to 14 in common; what each adds after them has its
 -- one home here.
-use Rattle.std.specs.Prelude.{true, false, List, [], ◌∷◌, ◌++◌, ℕ, get_or}
+use Rattle.std.specs.Prelude.{true, false, List, [], ◌∷◌, ◌++◌, ℕ, get_or, Some, None}
 use Rattle.sample.specs.Depth.{most_depth, most_level_depth}
 use Rattle.levels.specs.Equations.{weights, luma_matrix}
 use Rattle.codes.specs.declared.edition.Edition.{Edition}
 use Rattle.codes.specs.declared.edition.Edition.TheVariants.{Of2021, Draft, Published}
-use Rattle.codes.specs.declared.matrix.Bond.TheVariants.{Bits, Free}
 use Rattle.codes.specs.declared.matrix.Entry.{Entry}
 use Rattle.codes.specs.declared.matrix.Formulas.TheVariants.{ChangePlaces, YCgCo, Levels}
-use Rattle.codes.specs.declared.matrix.Lossless.TheVariants.{From, Never}
 use Rattle.codes.specs.declared.matrix.Matrix.{Matrix}
 use Rattle.codes.specs.declared.matrix.Matrix.TheVariants.{Served, Unserved, Unspecified, Reserved}
 
@@ -18,9 +16,9 @@ changed_places =
     record {
       formulas = ChangePlaces;
       deepest = most_depth;
-      bond = Bits 0;
+      bond = Some 0;
       chroma_bits = 0;
-      lossless = From 0;
+      lossless = Some 0;
       metered = false;
     }
 
@@ -30,9 +28,9 @@ ycgco y_bits chroma_bits =
     record {
       formulas = YCgCo;
       deepest = most_depth;
-      bond = Bits y_bits;
+      bond = Some y_bits;
       chroma_bits = chroma_bits;
-      lossless = From 1;
+      lossless = Some 1;
       metered = false;
     }
 
@@ -53,9 +51,9 @@ luma_entry kr kb =
     record {
       formulas = Levels (luma_matrix (weights kr kb));
       deepest = most_level_depth;
-      bond = Free;
+      bond = None;
       chroma_bits = 0;
-      lossless = Never;
+      lossless = None;
       metered = true;
     }
 

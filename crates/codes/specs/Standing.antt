@@ -1,8 +1,7 @@
 -- What a code comes to: in an edition that may be none, by the rule that it meets, and by its entry.
-use Rattle.std.specs.Prelude.{ℕ}
+use Rattle.std.specs.Prelude.{ℕ, Option, Some, None}
 use Rattle.codes.specs.Matrix.{changed_places, matrix_of}
-use Rattle.codes.specs.declared.edition.EditionChecked.{EditionChecked}
-use Rattle.codes.specs.declared.edition.EditionChecked.TheVariants.{Edition, Unknown}
+use Rattle.codes.specs.declared.edition.Edition.{Edition}
 use Rattle.codes.specs.declared.matrix.Entry.{Entry}
 use Rattle.codes.specs.declared.matrix.Matrix.{Matrix}
 use Rattle.codes.specs.declared.matrix.Matrix.TheVariants.{Served, Unserved, Unspecified, Reserved}
@@ -22,6 +21,6 @@ entry_of Unspecified = changed_places
 entry_of Unserved = changed_places
 
 -- what a code means in an edition: nothing in one that is none, which rule 12 refuses before this is asked
-abbrev pub matrix_by : EditionChecked → ℕ → Matrix
-matrix_by (Edition e) code = matrix_of e code
-matrix_by Unknown code = Reserved
+abbrev pub matrix_by : Option Edition → ℕ → Matrix
+matrix_by (Some e) code = matrix_of e code
+matrix_by None code = Reserved

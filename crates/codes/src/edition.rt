@@ -12,20 +12,14 @@ pub enum Edition {
     Published,
 }
 
-#[derive(Clone, Copy)]
-pub enum EditionChecked {
-    Edition(Edition),
-    Unknown,
-}
-
-// The edition of a number. One that was forgotten is 0, and is none.
-pub fn edition_of(number: u8) -> EditionChecked
+// The edition of a number. One that was forgotten is 0, and is none. No `TryFrom`: its one error is refusal 12, which a crate above knows.
+pub fn edition_of(number: u8) -> Option<Edition>
     ensures { result ≡ edition_of number }
 {
     match number {
-        1 => EditionChecked::Edition(Edition::Of2021),
-        2 => EditionChecked::Edition(Edition::Draft),
-        3 => EditionChecked::Edition(Edition::Published),
-        0 | 4..=255 => EditionChecked::Unknown,
+        1 => Some(Edition::Of2021),
+        2 => Some(Edition::Draft),
+        3 => Some(Edition::Published),
+        0 | 4..=255 => None,
     }
 }

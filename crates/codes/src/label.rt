@@ -1,6 +1,6 @@
 // What H.273 says of a code point of each kind.
 ghost use Rattle.std.specs.Prelude.{◌≡◌};
-ghost use Rattle.codes.specs.Label.{primaries_label, transfer_label, matrix_label, label_for, is_reserved};
+ghost use Rattle.codes.specs.Label.{label_number, primaries_label, transfer_label, matrix_label, label_for, is_reserved};
 
 use crate::edition::Edition;
 use crate::matrix::Matrix;
@@ -18,6 +18,19 @@ pub enum Label {
     Assigned,
     Unspecified,
     Reserved,
+}
+
+// The number of a label.
+impl From<Label> for u8 {
+    ghost from_gives = { λ label n. n ≡ label_number label };
+
+    fn from(label: Label) -> u8 {
+        match label {
+            Label::Assigned => 0,
+            Label::Unspecified => 1,
+            Label::Reserved => 2,
+        }
+    }
 }
 
 pub fn primaries_label(code: u8) -> Label
@@ -65,9 +78,5 @@ pub fn label_for(kind: CodeKind, edition: Edition, code: u8) -> Label
 pub fn is_reserved(label: Label) -> bool
     ensures { result ≡ is_reserved label }
 {
-    match label {
-        Label::Assigned => false,
-        Label::Unspecified => false,
-        Label::Reserved => true,
-    }
+    matches!(label, Label::Reserved)
 }

@@ -1,6 +1,7 @@
 // The table of matrices: which codes are served, and all that is known of each.
 ghost use Rattle.std.specs.Prelude.{◌≡◌, ◌+◌, ◌≤◌, ◌<◌};
 ghost use Rattle.levels.specs.Equations.{all_parts};
+ghost use Rattle.codes.specs.declared.matrix.Matrix.TheVariants.{Served};
 ghost use Rattle.codes.specs.Matrix.{changed_places, ycgco, luma_entry, matrix_of};
 
 use crate::edition::Edition;
@@ -17,37 +18,23 @@ pub enum Formulas {
     Levels(LevelMatrix),
 }
 
-// What binds the RGB side to the other.
-#[derive(Clone, Copy)]
-pub enum Bond {
-    // Y has so many bits more than RGB, and both sides have one range
-    Bits(u8),
-    // RGB depth and ranges are free
-    Free,
-}
-
-// Where a matrix loses nothing.
-#[derive(Clone, Copy)]
-pub enum Lossless {
-    // where chroma has at least so many bits more than RGB
-    From(u8),
-    Never,
-}
-
 // An entry of the table.
 #[derive(Clone, Copy)]
 pub struct Entry {
     pub formulas: Formulas,
     // the deepest sample
     pub deepest: u8,
-    pub bond: Bond,
+    // how many bits Y has more than RGB, and both sides then have one range; or RGB depth and ranges are free
+    pub bond: Option<u8>,
     // the most bits that chroma may have more than Y
     pub chroma_bits: u8,
-    pub lossless: Lossless,
+    // how many bits chroma has to have more than RGB for nothing to be lost, if that ever is so
+    pub lossless: Option<u8>,
     // whether the meter answers
     pub metered: bool,
 }
 
+// What a code means. Those that are not served are labels in their own right (`matrix_label`), so it is no `Result`.
 #[derive(Clone, Copy)]
 pub enum Matrix {
     Served(Entry),
@@ -56,47 +43,47 @@ pub enum Matrix {
     Reserved,
 }
 
-fn changed_places() -> Entry
-    ensures { result ≡ changed_places }
+fn changed_places() -> Matrix
+    ensures { result ≡ Served changed_places }
 {
-    Entry {
+    Matrix::Served(Entry {
         formulas: Formulas::ChangePlaces,
         deepest: sample::MOST_DEPTH,
-        bond: Bond::Bits(0),
+        bond: Some(0),
         chroma_bits: 0,
-        lossless: Lossless::From(0),
+        lossless: Some(0),
         metered: false,
-    }
+    })
 }
 
 // YCgCo with so many bits more in Y than in RGB, and at most so many more again in chroma.
-fn ycgco(y_bits: u8, chroma_bits: u8) -> Entry
-    ensures { result ≡ ycgco y_bits chroma_bits }
+fn ycgco(y_bits: u8, chroma_bits: u8) -> Matrix
+    ensures { result ≡ Served (ycgco y_bits chroma_bits) }
 {
-    Entry {
+    Matrix::Served(Entry {
         formulas: Formulas::YCgCo,
         deepest: sample::MOST_DEPTH,
-        bond: Bond::Bits(y_bits),
+        bond: Some(y_bits),
         chroma_bits,
-        lossless: Lossless::From(1),
+        lossless: Some(1),
         metered: false,
-    }
+    })
 }
 
 // A luma matrix by its KR and KB, in ten-thousandths.
-fn luma(kr: u64, kb: u64) -> Entry
+fn luma(kr: u64, kb: u64) -> Matrix
     requires { kr + kb < all_parts }
-    ensures { result ≡ luma_entry kr kb }
+    ensures { result ≡ Served (luma_entry kr kb) }
 {
     let matrix = levels::equations::luma(kr, kb);
-    Entry {
+    Matrix::Served(Entry {
         formulas: Formulas::Levels(matrix),
         deepest: sample::MOST_LEVEL_DEPTH,
-        bond: Bond::Free,
+        bond: None,
         chroma_bits: 0,
-        lossless: Lossless::Never,
+        lossless: None,
         metered: true,
-    }
+    })
 }
 
 // Codes from 15 on, which are each edition's own.
@@ -107,14 +94,14 @@ fn added(edition: Edition, code: u8) -> Matrix
     match edition {
         Edition::Of2021 => Matrix::Reserved,
         Edition::Draft => match code {
-            15 => Matrix::Served(ycgco(2, 0)),
-            16 => Matrix::Served(ycgco(1, 0)),
+            15 => ycgco(2, 0),
+            16 => ycgco(1, 0),
             _ => Matrix::Reserved,
         },
         Edition::Published => match code {
             15 => Matrix::Unserved,
-            16 => Matrix::Served(ycgco(2, 0)),
-            17 => Matrix::Served(ycgco(1, 0)),
+            16 => ycgco(2, 0),
+            17 => ycgco(1, 0),
             _ => Matrix::Reserved,
         },
     }
@@ -124,13 +111,13 @@ pub fn matrix_of(edition: Edition, code: u8) -> Matrix
     ensures { result ≡ matrix_of edition code }
 {
     match code {
-        0 => Matrix::Served(changed_places()),
-        1 => Matrix::Served(luma(2126, 722)),
-        4 => Matrix::Served(luma(3000, 1100)),
-        5..=6 => Matrix::Served(luma(2990, 1140)),
-        7 => Matrix::Served(luma(2120, 870)),
-        9 => Matrix::Served(luma(2627, 593)),
-        8 => Matrix::Served(ycgco(0, 1)),
+        0 => changed_places(),
+        1 => luma(2126, 722),
+        4 => luma(3000, 1100),
+        5..=6 => luma(2990, 1140),
+        7 => luma(2120, 870),
+        9 => luma(2627, 593),
+        8 => ycgco(0, 1),
         10..=14 => Matrix::Unserved,
         15..=17 => added(edition, code),
         2 => Matrix::Unspecified,

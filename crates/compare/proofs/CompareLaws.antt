@@ -1,8 +1,9 @@
 -- Laws of what is compared: a test that is the same wherever it is asked tells the same.
-use mathlib.Core.Path.{◌≡◌, sym, ◌∙◌}
-use mathlib.Core.Bool.{Bool}
+use mathlib.Core.Path.{◌≡◌, refl, sym, ◌∙◌}
+use mathlib.Core.Bool.{Bool, true, false}
 use Prim.Native.Nat.{ℕ, ◌<◌}
 use native.Mathlib.Omega.{arith}
+use Rattle.std.proofs.Common.{Some, None}
 use Rattle.compare.specs.Count.{FirstAt}
 use Rattle.compare.specs.Compare.{Compared}
 use Rattle.compare.specs.declared.Tally.{Tally}
@@ -18,4 +19,13 @@ first_same e h =
 
 pub compared_same : {r : Tally} {sought : Bool} {n : ℕ} {f g : ℕ → Bool} → ((k : ℕ) → k < n → f k ≡ g k) → Compared r sought n f → Compared r sought n g
 compared_same e h =
-    record { fine = h.fine; counted = h.counted ∙ count_same _ _ _ e; found = λ s. first_same e (h.found s) }
+    record {
+      counted = h.counted ∙ count_same _ _ _ e;
+      unsought = h.unsought;
+      found = λ s. let g = h.found s in record { inside = g.inside; first_at = first_same e g.first_at };
+    }
+
+-- an index that was found is that of a pixel
+pub found_inside : {r : Tally} {sought : Bool} {n : ℕ} {f : ℕ → Bool} → Compared r sought n f → (i : ℕ) → r.first ≡ Some i → i < n
+found_inside {sought = true} h i e = (h.found refl).inside i e
+found_inside {sought = false} h i e = absurd (let q : None ≡ Some i = sym (h.unsought refl) ∙ e in cc)

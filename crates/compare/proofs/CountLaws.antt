@@ -1,15 +1,15 @@
 -- Laws of counting, and of the first that passes: over one more, over two parts, and of all the places of a picture.
 use mathlib.Core.Path.{◌≡◌, refl, ap, ◌∙◌, subst}
-use mathlib.Core.Bool.{Bool, true, false}
+use mathlib.Core.Bool.{Bool, false}
 use mathlib.Core.Logic.{⊎_elim}
 use Prim.Native.Nat.{ℕ, zero, suc, ◌+◌, ◌-◌, ◌≤◌, ◌<◌}
 use native.Mathlib.Nat.{add-zero, add-suc, eq-or-lt_of_le, le_of_suc-le-suc, not-suc-le-zero}
 use native.Mathlib.Omega.{arith}
-use borrow.Author.Count.{below_more}
+use Rattle.std.proofs.Common.{None}
 use Rattle.sample.proofs.Choices.{below_or_not}
 use Rattle.sample.specs.Flag.{one_if}
 use Rattle.sample.proofs.FlagLaws.{one_most, one_none}
-use Rattle.compare.specs.Count.{count_of, FirstAt}
+use Rattle.compare.specs.Count.{count_of, FirstAt, FirstFound}
 
 -- ---- counting
 
@@ -61,13 +61,6 @@ counted_none (suc n) test e = rw (counted_none n test (λ k h. e k (omega arith)
 pub first_none : (test : ℕ → Bool) → FirstAt test 0 0
 first_none test = record { within = omega arith; none_before = λ k h. absurd (not-suc-le-zero h); passes = λ h. absurd (not-suc-le-zero h) }
 
--- none has passed so far: nor does the next, or it does, or there is none left
-pub first_more : (test : ℕ → Bool) (i : ℕ) → FirstAt test i i → test i ≡ false → FirstAt test (i + 1) (i + 1)
-first_more test i f e = record { within = omega arith; none_before = below_more _ i f.none_before e; passes = λ h. absurd (omega arith) }
-
-pub first_here : (test : ℕ → Bool) (i n : ℕ) → FirstAt test i i → i < n → test i ≡ true → FirstAt test n i
-first_here test i n f l e = record { within = omega arith; none_before = f.none_before; passes = λ h. e }
-
 pub first_past : (test : ℕ → Bool) (n : ℕ) → ((k : ℕ) → k < n → test k ≡ false) → FirstAt test n n
 first_past test n e = record { within = omega arith; none_before = e; passes = λ h. absurd (omega arith) }
 
@@ -89,3 +82,7 @@ pub first_kept : (test : ℕ → Bool) (n m first : ℕ) → FirstAt test n firs
 first_kept test n m first a l =
     let less : first < n = ⊎_elim (λ (e : first ≡ n). absurd (l e)) (λ h. h) (eq-or-lt_of_le a.within) in
     record { within = omega arith; none_before = a.none_before; passes = λ h. a.passes less }
+
+-- where none passes none is found
+pub none_found : (test : ℕ → Bool) (n : ℕ) → ((k : ℕ) → k < n → test k ≡ false) → FirstFound test n None
+none_found test n e = record { inside = λ i h. cc; first_at = first_past test n e }

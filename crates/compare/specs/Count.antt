@@ -1,5 +1,5 @@
 -- How many pass a test: of some indices, and of the places of a picture.
-use Rattle.std.specs.Prelude.{◌≡◌, Bool, true, false, ℕ, zero, suc, ◌+◌, ◌≤◌, ◌<◌}
+use Rattle.std.specs.Prelude.{◌≡◌, Bool, true, false, Option, Some, None, ℕ, zero, suc, ◌+◌, ◌≤◌, ◌<◌}
 use Rattle.sample.specs.Flag.{one_if}
 
 -- how many of 0, .., n - 1 pass
@@ -17,3 +17,13 @@ pub record FirstAt (test : ℕ → Bool) (n first : ℕ) : Type 0 where
   pub within : first ≤ n
   pub none_before : (k : ℕ) → k < first → test k ≡ false
   pub passes : first < n → test first ≡ true
+
+-- an index that was found, or n where none was
+abbrev pub index_or : ℕ → Option ℕ → ℕ
+index_or n (Some i) = i
+index_or n None = n
+
+-- the first of 0, .., n - 1 that passes, if one does
+pub record FirstFound (test : ℕ → Bool) (n : ℕ) (first : Option ℕ) : Type 0 where
+  pub inside : (i : ℕ) → first ≡ Some i → i < n
+  pub first_at : FirstAt test n (index_or n first)

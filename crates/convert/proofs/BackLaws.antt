@@ -1,16 +1,15 @@
 -- Laws of a loop that asks whether a row comes back: it gathers the bits in which its pixels differ from what they become, and where it has
 -- gathered none every pixel so far came back.
-use mathlib.Core.Path.{◌≡◌, refl, ap, ◌∙◌, subst}
+use mathlib.Core.Path.{◌≡◌, ap, ◌∙◌, subst}
 use mathlib.Core.Bool.{true}
-use mathlib.Core.List.{List}
 use Prim.Native.Nat.{ℕ, ◌+◌, ◌<◌}
 use native.Mathlib.Omega.{arith}
-use borrow.Author.Count.{below_none, below_more}
+use borrow.Author.Count.{below_more}
 use borrow.Author.Tests.{eq-eqb}
 use lib.Bits.{bit_or, bit_xor, and_le_l, and_le_r, or_add_and, xor_add_and}
 use Rattle.sample.specs.declared.Pixel.{Pixel}
 use Rattle.plan.specs.Source.{same_pixel, comes_back}
-use Rattle.convert.specs.Row.{pixel_in}
+use Rattle.planes.specs.Three.{Three, pixel_in}
 
 -- of two numbers neither has a bit, and no bit is in one of them alone
 neither : (a b : ℕ) → bit_or a b ≡ 0 → (a ≡ 0) × (b ≡ 0)
@@ -25,24 +24,18 @@ same_by_bits p q e =
     let u = neither _ _ t.0 in
     rw (eq-eqb _ _ (alike p.p0 q.p0 u.0), eq-eqb _ _ (alike p.p1 q.p1 u.1), eq-eqb _ _ (alike p.p2 q.p2 t.1))
 
-pub same_itself : (p : Pixel) → same_pixel p p ≡ true
-same_itself p = rw (eq-eqb p.p0 p.p0 refl, eq-eqb p.p1 p.p1 refl, eq-eqb p.p2 p.p2 refl)
-
 -- The loop's invariant: the bits gathered from the first i pixels.
-pub record BackUntil (back forth : Pixel → Pixel) (a0 a1 a2 : List ℕ) (bits i : ℕ) : Type 0 where
-  pub came_back : bits ≡ 0 → (k : ℕ) → k < i → comes_back back forth (pixel_in a0 a1 a2 k) ≡ true
+pub record BackUntil (back forth : Pixel → Pixel) (a : Three) (bits i : ℕ) : Type 0 where
+  pub came_back : bits ≡ 0 → (k : ℕ) → k < i → comes_back back forth (pixel_in a k) ≡ true
 
-module _ {back forth : Pixel → Pixel} {a0 a1 a2 : List ℕ} where
-  pub back_none : BackUntil back forth a0 a1 a2 0 0
-  back_none = record { came_back = λ _. below_none _ }
-
+module _ {back forth : Pixel → Pixel} {a : Three} where
   -- a turn: the pixel p at i has the source q, and that becomes r
-  pub back_more : {bits more i : ℕ} {p q r : Pixel} → BackUntil back forth a0 a1 a2 bits i → p ≡ pixel_in a0 a1 a2 i → q ≡ back p → r ≡ forth q
-      → (more ≡ 0 → same_pixel r p ≡ true) → BackUntil back forth a0 a1 a2 (bit_or bits more) (i + 1)
+  pub back_more : {bits more i : ℕ} {p q r : Pixel} → BackUntil back forth a bits i → p ≡ pixel_in a i → q ≡ back p → r ≡ forth q
+      → (more ≡ 0 → same_pixel r p ≡ true) → BackUntil back forth a (bit_or bits more) (i + 1)
   back_more {bits} {more} {i} {p} {q} {r} w e f g h =
       record {
         came_back = λ z.
             let n = neither bits more z in
-            below_more (λ k. comes_back back forth (pixel_in a0 a1 a2 k) ≡ true) i (w.came_back n.0)
+            below_more (λ k. comes_back back forth (pixel_in a k) ≡ true) i (w.came_back n.0)
             (subst (λ x. comes_back back forth x ≡ true) e (subst (λ x. same_pixel x p ≡ true) (g ∙ ap forth f) (h n.1)));
       }

@@ -2,12 +2,13 @@
 ghost use Rattle.std.specs.Prelude.{◌≡◌, true, length};
 ghost use Rattle.sample.specs.Depth.{InsideRGB};
 ghost use Rattle.ycgco.specs.YCgCo.{lossless_forward, lossless_reverse, LosslessDepths};
+ghost use Rattle.planes.specs.Three.{held};
 ghost use Rattle.plan.specs.Plan.{planned, Roomy, Takes};
 ghost use Rattle.plan.specs.Source.{same_pixel};
 ghost use Rattle.convert.specs.Row.{EveryOf, KnownBack};
 
-use crate::pixels::pixel_in;
 use plan::Plan;
+use planes::three::Planes;
 use sample::{Depths, Pixel};
 
 // The bits in which two pixels differ, of all three samples together.
@@ -17,32 +18,32 @@ fn difference(p: Pixel, q: Pixel) -> u16
     (p.p0 ^ q.p0) | (p.p1 ^ q.p1) | (p.p2 ^ q.p2)
 }
 
-// The lossless formulas, back and forth. The loop goes on after a pixel that differs: with no exit it takes many pixels at once.
-fn lossless(back: Depths, forth: Depths, a0: &[u16], a1: &[u16], a2: &[u16]) -> bool
+// The lossless formulas, back and forth. The loop goes on after a pixel that differs: with no exit it takes many at once. It goes by an index: over three slices.
+fn lossless(back: Depths, forth: Depths, a: Planes<'_>) -> bool
     requires lossless_depths { LosslessDepths back × LosslessDepths forth }
-    requires a1_len { length a1.now ≡ length a0.now }
-    requires a2_len { length a2.now ≡ length a0.now }
-    requires every_of { EveryOf (λ p. InsideRGB forth (lossless_reverse back p)) a0.now a1.now a2.now }
-    ensures { KnownBack result (lossless_reverse back) (lossless_forward forth) a0.now a1.now a2.now }
+    requires a1_len { length a.p1.now ≡ length a.p0.now }
+    requires a2_len { length a.p2.now ≡ length a.p0.now }
+    requires every_of { EveryOf (λ p. InsideRGB forth (lossless_reverse back p)) (held a) }
+    ensures { KnownBack result (lossless_reverse back) (lossless_forward forth) (held a.entry) }
 {
     let mut apart = 0;
-    for i in 0..a0.len() {
-        let p = pixel_in(a0, a1, a2, i);
+    for i in 0..a.p0.len() {
+        let p = a.pixel(i);
         let source = ycgco::lossless_reverse(back, p);
         let again = ycgco::lossless_forward(forth, source);
-        apart = apart | difference(again, p);
+        apart |= difference(again, p);
     }
     apart == 0
 }
 
 // Yes only if every pixel of the row is the same when it was converted back and forth. No says nothing: of plans that lose something
 // the row is not looked at.
-pub fn row_comes_back(back: Plan, forth: Plan, a0: &[u16], a1: &[u16], a2: &[u16]) -> bool
+pub fn row_comes_back(back: Plan, forth: Plan, a: Planes<'_>) -> bool
     requires roomy { Roomy back × Roomy forth }
-    requires a1_len { length a1.now ≡ length a0.now }
-    requires a2_len { length a2.now ≡ length a0.now }
-    requires every_of { EveryOf (λ p. Takes forth (planned back p)) a0.now a1.now a2.now }
-    ensures { KnownBack result (planned back) (planned forth) a0.now a1.now a2.now }
+    requires a1_len { length a.p1.now ≡ length a.p0.now }
+    requires a2_len { length a.p2.now ≡ length a.p0.now }
+    requires every_of { EveryOf (λ p. Takes forth (planned back p)) (held a) }
+    ensures { KnownBack result (planned back) (planned forth) (held a.entry) }
 {
     if let Plan::PlacesReverse = back {
         if let Plan::PlacesForward = forth {
@@ -51,7 +52,7 @@ pub fn row_comes_back(back: Plan, forth: Plan, a0: &[u16], a1: &[u16], a2: &[u16
     }
     if let Plan::LosslessReverse(d) = back {
         if let Plan::LosslessForward(e) = forth {
-            return lossless(d, e, a0, a1, a2);
+            return lossless(d, e, a);
         }
     }
     false

@@ -2,14 +2,13 @@
 #![tactic(auto)]
 
 pub mod back;
-mod each;
+pub mod each;
 mod line_rows;
-pub mod pixels;
 pub mod row;
 
 ghost use Rattle.std.specs.Prelude.{◌≡◌};
 ghost use Rattle.plan.specs.Plan.{planned, Roomy, Takes};
-ghost use Rattle.plan.specs.Source.{same_pixel, comes_back};
+ghost use Rattle.plan.specs.Source.{comes_back};
 
 use plan::Plan;
 use sample::Pixel;
@@ -39,17 +38,6 @@ pub fn pixel(plan: Plan, p: Pixel) -> Pixel
     }
 }
 
-pub fn is_same(p: Pixel, q: Pixel) -> bool
-    ensures { result ≡ same_pixel p q }
-{
-    if p.p0 == q.p0 {
-        if p.p1 == q.p1 {
-            return p.p2 == q.p2;
-        }
-    }
-    false
-}
-
 // Whether a pixel is the same when it was converted back and forth.
 pub fn comes_back(back: Plan, forth: Plan, p: Pixel) -> bool
     requires roomy { Roomy back }
@@ -60,5 +48,5 @@ pub fn comes_back(back: Plan, forth: Plan, p: Pixel) -> bool
 {
     let source = pixel(back, p);
     let again = pixel(forth, source);
-    is_same(again, p)
+    again == p
 }

@@ -7,8 +7,8 @@ ghost use Rattle.cork.specs.CommandLine.{most_words, Words, edition_said};
 use codes::label::CodeKind;
 use counter::{GAP, saying, wording};
 use meter::SampleKind;
-use request::form;
-use request::form::{Asked, Expected};
+use request::form::{Behind, Expected, Fault, RangeNames};
+use request::{Request, form};
 use setting::{Call, Way};
 use std::env::{Env, FillError};
 use std::fs::{File, Files};
@@ -19,7 +19,10 @@ use text::reading;
 const MOST_WORDS: usize = 20;
 
 // The names of the two ranges.
-const RANGES: [u8; 11] = *b"narrow full";
+const RANGES: RangeNames<'static> = RangeNames {
+    narrow: b"narrow",
+    full: b"full",
+};
 
 // The names of the editions, from number 1 on, and the number of the one that is meant where none is named.
 const EDITIONS: [u8; 20] = *b"2021 draft published";
@@ -34,92 +37,88 @@ struct Said {
 }
 
 // Word 1, where it names an edition.
-fn edition_said(words: &[u8], names: &[u8]) -> Said
-    ensures { result ≡ edition_said words.now names.now }
+fn edition_said(words: reading::Words<'_>, names: &[u8]) -> Said
+    ensures { result ≡ edition_said words.entry.gap words.entry.text.now names.now }
 {
-    let place = reading::place_at(words, GAP, 1, names);
-    if place < 3 {
-        return Said {
+    let editions = reading::Words {
+        text: names,
+        gap: b' ',
+    };
+    match editions.place(words.word(1)) {
+        Some(place @ 0..=2) => Said {
             edition: place as u8 + 1,
             words: 1,
-        };
-    }
-    Said {
-        edition: PUBLISHED,
-        words: 0,
-    }
-}
-
-fn asked(rt: &impl Print, words: &[u8], said: Said, a: Asked) -> io::Result<()> {
-    match a {
-        Asked::For(request) => saying::answer(rt, request, ask::ask(request)),
-        Asked::Fault { word, expected } => saying::fault(rt, words, said.words, word, expected),
+        },
+        _ => Said {
+            edition: PUBLISHED,
+            words: 0,
+        },
     }
 }
 
-fn on_pixel(rt: &impl Print, words: &[u8], said: Said, call: Call) -> io::Result<()> {
-    asked(
-        rt,
-        words,
-        said,
-        form::pixel_form(call, said.edition, words, GAP, &RANGES),
-    )
-}
-
-fn on_sample(rt: &impl Print, words: &[u8], said: Said, kind: SampleKind) -> io::Result<()> {
-    asked(
-        rt,
-        words,
-        said,
-        form::sample_form(kind, said.edition, words, GAP, &RANGES, 10),
-    )
-}
-
-fn on_code(rt: &impl Print, words: &[u8], said: Said, kind: CodeKind) -> io::Result<()> {
-    asked(
-        rt,
-        words,
-        said,
-        form::label_form(kind, said.edition, words, GAP, 2),
-    )
-}
-
-fn on_meter(rt: &impl Print, words: &[u8], said: Said) -> io::Result<()> {
-    match reading::place_at(words, GAP, 9, b"y cb cr") {
-        0 => on_sample(rt, words, said, SampleKind::Y),
-        1 => on_sample(rt, words, said, SampleKind::Cb),
-        2 => on_sample(rt, words, said, SampleKind::Cr),
-        _ => on_pixel(rt, words, said, Call::Meter),
+// What the words of a request come to, where an edition may have stood before them.
+fn asked(
+    rt: &impl Print,
+    words: reading::Words<'_>,
+    said: Said,
+    request: Result<Request, Fault>,
+) -> io::Result<()> {
+    match request {
+        Ok(request) => saying::answer(rt, request, ask::ask(request)),
+        Err(fault) => saying::fault(rt, words, said.words, fault),
     }
 }
 
-fn on_label(rt: &impl Print, words: &[u8], said: Said) -> io::Result<()> {
-    match reading::place_at(words, GAP, 1, b"primaries transfer matrix") {
-        0 => on_code(rt, words, said, CodeKind::Primaries),
-        1 => on_code(rt, words, said, CodeKind::Transfer),
-        2 => on_code(rt, words, said, CodeKind::Matrix),
-        _ => saying::fault(rt, words, said.words, 1, Expected::CodeKind),
-    }
+fn on_pixel(rt: &impl Print, words: reading::Words<'_>, said: Said, call: Call) -> io::Result<()> {
+    let request = form::pixel_form(call, said.edition, words, RANGES);
+    asked(rt, words, said, request)
 }
 
-fn on_words(rt: &(impl Env + Files<File = File> + Print), all: &[u8]) -> io::Result<()> {
-    let verb = reading::place_at(
-        all,
-        GAP,
-        0,
-        b"forward reverse source meter label label-of help --help -h",
-    );
+fn on_meter(rt: &impl Print, words: reading::Words<'_>, said: Said) -> io::Result<()> {
+    let kind = match words.word(9) {
+        b"y" => SampleKind::Y,
+        b"cb" => SampleKind::Cb,
+        b"cr" => SampleKind::Cr,
+        _ => return on_pixel(rt, words, said, Call::Meter),
+    };
+    let request = form::sample_form(kind, said.edition, words, RANGES, Behind::Kind);
+    asked(rt, words, said, request)
+}
+
+fn on_label(rt: &impl Print, words: reading::Words<'_>, said: Said) -> io::Result<()> {
+    let request = match words.word(1) {
+        b"primaries" => form::label_form(CodeKind::Primaries, said.edition, words, 2),
+        b"transfer" => form::label_form(CodeKind::Transfer, said.edition, words, 2),
+        b"matrix" => form::label_form(CodeKind::Matrix, said.edition, words, 2),
+        _ => Err(Fault {
+            word: 1,
+            expected: Expected::CodeKind,
+        }),
+    };
+    asked(rt, words, said, request)
+}
+
+fn on_words(
+    rt: &(impl Env + Files<File = File> + Print),
+    all: reading::Words<'_>,
+) -> io::Result<()> {
     let said = edition_said(all, &EDITIONS);
-    let words = reading::words_from(all, GAP, said.words);
-    match verb {
-        0 => on_pixel(rt, words, said, Call::Convert(Way::Forward)),
-        1 => on_pixel(rt, words, said, Call::Convert(Way::Reverse)),
-        2 => on_pixel(rt, words, said, Call::ImageCheck),
-        3 => on_meter(rt, words, said),
-        4 => on_label(rt, words, said),
-        5 => file_label::asked(rt, all),
-        6..=8 => wording::usage(rt),
-        _ => saying::fault(rt, all, 0, 0, Expected::Verb),
+    let words = all.skip(said.words);
+    match all.first() {
+        b"forward" => on_pixel(rt, words, said, Call::Convert(Way::Forward)),
+        b"reverse" => on_pixel(rt, words, said, Call::Convert(Way::Reverse)),
+        b"source" => on_pixel(rt, words, said, Call::ImageCheck),
+        b"meter" => on_meter(rt, words, said),
+        b"label" => on_label(rt, words, said),
+        b"label-of" => file_label::asked(rt, all),
+        b"help" | b"--help" | b"-h" => wording::usage(rt),
+        _ => {
+            let verb = Fault {
+                word: 0,
+                expected: Expected::Verb,
+            };
+            saying::fault(rt, all, 0, verb)
+        }
     }
 }
 
@@ -131,10 +130,7 @@ fn word(rt: &impl Env, i: usize, words: &mut [u8], at: usize) -> usize
     ensures upper_bound { result ≤ length words.old }
 {
     let mut one = [0u8; 64];
-    let n = match rt.arg(i, &mut one) {
-        Ok(n) => n,
-        Err(_) => 0,
-    };
+    let n = rt.arg(i, &mut one).unwrap_or(0);
     if n == 0 && one[0] != 0 {
         let cut = text::writing::put(words, at, &one);
         return text::writing::put(words, cut, b"..\0");
@@ -149,13 +145,8 @@ fn all_words(rt: &impl Env, count: usize, words: &mut [u8]) -> usize
     ensures upper_bound { result ≤ length words.old }
 {
     let mut at = 0;
-    let mut i: usize = 1;
-    while i < count {
-        if MOST_WORDS < i {
-            return at;
-        }
+    for i in 1..count.min(MOST_WORDS + 1) {
         at = word(rt, i, words, at);
-        i += 1;
     }
     at
 }
@@ -175,5 +166,9 @@ fn main(rt: HostRuntime) -> io::Result<()> {
     }
     let mut words = [0u8; 4096];
     let n = all_words(&rt, count, &mut words);
-    on_words(&rt, &words[..n])
+    let all = reading::Words {
+        text: &words[..n],
+        gap: GAP,
+    };
+    on_words(&rt, all)
 }

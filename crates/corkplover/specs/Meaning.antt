@@ -1,24 +1,13 @@
 -- What each case of an answer says in the rules' own terms: 0 or the refusal's number, a place, a bad sample, and what else there is. The same of the
 -- number that a caller from another language is given, so that what is promised is said once for both.
-use Rattle.std.specs.Prelude.{Bool, true, false, cond, List, [], ◌∷◌, ℕ, eqb, Float}
+use Rattle.std.specs.Prelude.{Bool, true, false, cond, List, [], ◌∷◌, ℕ, eqb, Float, Result, Ok, Err, Option, Some, None}
 use Rattle.refusal.specs.Rules.{at, nowhere}
 use Rattle.refusal.specs.declared.Place.{Place}
 use Rattle.refusal.specs.declared.Refusal.{Refusal}
-use Rattle.frame.specs.declared.FrameAnswer.{FrameAnswer}
-use Rattle.frame.specs.declared.FrameAnswer.TheVariants as frame
-use Rattle.image_check.specs.declared.ImageAnswer.{ImageAnswer}
-use Rattle.image_check.specs.declared.ImageAnswer.TheVariants as image
-use Rattle.judge.specs.declared.Judgement.{Judgement}
-use Rattle.judge.specs.declared.Judgement.TheVariants as judgement
 use Rattle.corkplover.specs.Packing.{number_in, second_in, first_in, middle_in, last_in}
-use Rattle.corkplover.specs.declared.pixels.PixelAnswer.{PixelAnswer}
-use Rattle.corkplover.specs.declared.pixels.PixelAnswer.TheVariants as pixel
-use Rattle.corkplover.specs.declared.pixels.SourceAnswer.{SourceAnswer}
-use Rattle.corkplover.specs.declared.pixels.SourceAnswer.TheVariants as source
-use Rattle.corkplover.specs.declared.meters.Reading.{Reading}
-use Rattle.corkplover.specs.declared.meters.Reading.TheVariants as meter
-use Rattle.corkplover.specs.declared.meters.LevelsAnswer.{LevelsAnswer}
-use Rattle.corkplover.specs.declared.meters.LevelsAnswer.TheVariants as levels
+use Rattle.judge.specs.declared.Difference.{Difference}
+use Rattle.sample.specs.declared.Pixel.{Pixel}
+use Rattle.meter.specs.declared.PixelLevels.{PixelLevels}
 
 -- the place of a 10, of a pixel without a source or of a claimed one that is wrong, the bad sample of a 10, converted samples, levels, the word of a
 -- source check, true for yes, and that of a judgement, true for agrees, with how many claimed pixels are wrong
@@ -49,40 +38,39 @@ abbrev pub meaning_judged : Bool → Place → ℕ → Meaning
 meaning_judged word place n =
     record { number = 0; place = place; bad = 0; samples = []; levels = []; source = []; agrees = word ∷ []; wrong = n }
 
-abbrev pub meaning_of_pixel : PixelAnswer → Meaning
-meaning_of_pixel (pixel.Converted p) = meaning_samples (p.p0 ∷ p.p1 ∷ p.p2 ∷ [])
-meaning_of_pixel (pixel.Refused r) = meaning_refusal r
+abbrev pub meaning_of_pixel : Result Pixel Refusal → Meaning
+meaning_of_pixel (Ok p) = meaning_samples (p.p0 ∷ p.p1 ∷ p.p2 ∷ [])
+meaning_of_pixel (Err r) = meaning_refusal r
 
-abbrev pub meaning_of_source : SourceAnswer → Meaning
-meaning_of_source source.Yes = meaning_source true nowhere
-meaning_of_source source.NoSource = meaning_source false nowhere
-meaning_of_source (source.Refused r) = meaning_refusal r
+abbrev pub meaning_of_source : Result Bool Refusal → Meaning
+meaning_of_source (Ok found) = meaning_source found nowhere
+meaning_of_source (Err r) = meaning_refusal r
 
-abbrev pub meaning_of_reading : Reading → Meaning
-meaning_of_reading (meter.Level x) = meaning_levels (x ∷ [])
-meaning_of_reading (meter.Refused r) = meaning_refusal r
+abbrev pub meaning_of_reading : Result Float Refusal → Meaning
+meaning_of_reading (Ok x) = meaning_levels (x ∷ [])
+meaning_of_reading (Err r) = meaning_refusal r
 
-abbrev pub meaning_of_levels : LevelsAnswer → Meaning
-meaning_of_levels (levels.Levels x) = meaning_levels (x.y ∷ x.cb ∷ x.cr ∷ [])
-meaning_of_levels (levels.Refused r) = meaning_refusal r
+abbrev pub meaning_of_levels : Result PixelLevels Refusal → Meaning
+meaning_of_levels (Ok x) = meaning_levels (x.y ∷ x.cb ∷ x.cr ∷ [])
+meaning_of_levels (Err r) = meaning_refusal r
 
 -- a frame's samples are in its planes
 abbrev pub meaning_done : Meaning
 meaning_done = meaning_samples []
 
-abbrev pub meaning_of_frame : FrameAnswer → Meaning
-meaning_of_frame frame.Done = meaning_done
-meaning_of_frame (frame.Refused r) = meaning_refusal r
+abbrev pub meaning_of_frame : Result Unit Refusal → Meaning
+meaning_of_frame (Ok u) = meaning_done
+meaning_of_frame (Err r) = meaning_refusal r
 
-abbrev pub meaning_of_image : ImageAnswer → Meaning
-meaning_of_image image.Yes = meaning_source true nowhere
-meaning_of_image (image.NoSource place) = meaning_source false place
-meaning_of_image (image.Refused r) = meaning_refusal r
+abbrev pub meaning_of_image : Result (Option Place) Refusal → Meaning
+meaning_of_image (Ok None) = meaning_source true nowhere
+meaning_of_image (Ok (Some place)) = meaning_source false place
+meaning_of_image (Err r) = meaning_refusal r
 
-abbrev pub meaning_of_judgement : Judgement → Meaning
-meaning_of_judgement judgement.Agrees = meaning_judged true nowhere 0
-meaning_of_judgement (judgement.Differs place n) = meaning_judged false place n
-meaning_of_judgement (judgement.Refused r) = meaning_refusal r
+abbrev pub meaning_of_judgement : Result (Option Difference) Refusal → Meaning
+meaning_of_judgement (Ok None) = meaning_judged true nowhere 0
+meaning_of_judgement (Ok (Some d)) = meaning_judged false d.first d.count
+meaning_of_judgement (Err r) = meaning_refusal r
 
 -- ---- the numbers that callers from other languages see, and what they find behind their pointers
 

@@ -1,7 +1,7 @@
 -- Answers and settings as one number each, for callers in other languages. In an answer bits 0 to 7 are 0 or the refusal's number; a 10
 -- has its plane from bit 8, its row from bit 16, its column from bit 32 and its sample from bit 48; an accepted pixel has its samples from
 -- bits 16, 32 and 48. All other bits are 0.
-use Rattle.std.specs.Prelude.{false, ℕ, ◌+◌, ◌*◌, ◌/◌, ◌%◌, eqb, pos, Float}
+use Rattle.std.specs.Prelude.{false, ℕ, ◌+◌, ◌*◌, ◌/◌, ◌%◌, eqb, pos, Float, Result, Ok, Err, Option, Some, None}
 use Rattle.std.specs.Float.{fin}
 use Rattle.sample.specs.Flag.{one_if}
 use Rattle.sample.specs.declared.Pixel.{Pixel}
@@ -10,20 +10,9 @@ use Rattle.refusal.specs.declared.Refusal.{Refusal}
 use Rattle.codes.specs.Label.{label_number}
 use Rattle.setting.specs.declared.Setting.{Setting}
 use Rattle.rows.specs.declared.paint.Size.{Size}
-use Rattle.frame.specs.declared.FrameAnswer.{FrameAnswer}
-use Rattle.frame.specs.declared.FrameAnswer.TheVariants as frame
-use Rattle.image_check.specs.declared.ImageAnswer.{ImageAnswer}
-use Rattle.image_check.specs.declared.ImageAnswer.TheVariants as image
-use Rattle.judge.specs.declared.Judgement.{Judgement}
-use Rattle.judge.specs.declared.Judgement.TheVariants as judgement
-use Rattle.corkplover.specs.declared.labels.LabelAnswer.{LabelAnswer}
-use Rattle.corkplover.specs.declared.labels.LabelAnswer.TheVariants as label
-use Rattle.corkplover.specs.declared.pixels.PixelAnswer.{PixelAnswer}
-use Rattle.corkplover.specs.declared.pixels.PixelAnswer.TheVariants as pixel
-use Rattle.corkplover.specs.declared.meters.Reading.{Reading}
-use Rattle.corkplover.specs.declared.meters.Reading.TheVariants as meter
-use Rattle.corkplover.specs.declared.meters.LevelsAnswer.{LevelsAnswer}
-use Rattle.corkplover.specs.declared.meters.LevelsAnswer.TheVariants as levels
+use Rattle.refusal.specs.declared.Place.{Place}
+use Rattle.judge.specs.declared.Difference.{Difference}
+use Rattle.codes.specs.declared.label.Label.{Label}
 
 -- five fields: 8 bits, 8 bits and three times 16 bits
 abbrev pub packed : ℕ → ℕ → ℕ → ℕ → ℕ → ℕ
@@ -49,37 +38,40 @@ last_in x = x / 281474976710656
 abbrev pub packed_refusal : Refusal → ℕ
 packed_refusal r = packed r.number r.place.plane r.place.row r.place.column r.sample
 
-abbrev pub packed_pixel : PixelAnswer → ℕ
-packed_pixel (pixel.Converted p) = packed 0 0 p.p0 p.p1 p.p2
-packed_pixel (pixel.Refused r) = packed_refusal r
+abbrev pub packed_pixel : Result Pixel Refusal → ℕ
+packed_pixel (Ok p) = packed 0 0 p.p0 p.p1 p.p2
+packed_pixel (Err r) = packed_refusal r
 
--- the meter's number is 0 where it is accepted; the levels go where the caller said, and are 0 on a refusal
-abbrev pub packed_reading : Reading → ℕ
-packed_reading (meter.Level x) = 0
-packed_reading (meter.Refused r) = packed_refusal r
+-- 0 where nothing was refused; what there is then goes where the caller said
+abbrev pub packed_done : {A : Type 0} → Result A Refusal → ℕ
+packed_done (Ok x) = 0
+packed_done (Err r) = packed_refusal r
 
-abbrev pub packed_levels : LevelsAnswer → ℕ
-packed_levels (levels.Levels x) = 0
-packed_levels (levels.Refused r) = packed_refusal r
+-- so the meter's number, whose levels are 0 on a refusal
+abbrev pub packed_reading : Result Float Refusal → ℕ
+packed_reading = packed_done
+
+abbrev pub packed_levels : Result PixelLevels Refusal → ℕ
+packed_levels = packed_done
 
 abbrev pub no_level : Float
 no_level = fin false 0 (pos 0)
 
-abbrev pub level_in : Reading → Float
-level_in (meter.Level x) = x
-level_in (meter.Refused r) = no_level
+abbrev pub level_in : Result Float Refusal → Float
+level_in (Ok x) = x
+level_in (Err r) = no_level
 
-abbrev pub levels_in : LevelsAnswer → PixelLevels
-levels_in (levels.Levels x) = x
-levels_in (levels.Refused r) = record { y = no_level; cb = no_level; cr = no_level }
+abbrev pub levels_in : Result PixelLevels Refusal → PixelLevels
+levels_in (Ok x) = x
+levels_in (Err r) = record { y = no_level; cb = no_level; cr = no_level }
 
-abbrev pub y_in : LevelsAnswer → Float
+abbrev pub y_in : Result PixelLevels Refusal → Float
 y_in a = (levels_in a).y
 
-abbrev pub cb_in : LevelsAnswer → Float
+abbrev pub cb_in : Result PixelLevels Refusal → Float
 cb_in a = (levels_in a).cb
 
-abbrev pub cr_in : LevelsAnswer → Float
+abbrev pub cr_in : Result PixelLevels Refusal → Float
 cr_in a = (levels_in a).cr
 
 -- A setting in one word: a byte each for primaries, transfer, matrix and the depths of RGB, Y and C, from the lowest byte up, then a bit each
@@ -112,29 +104,28 @@ pixel_from a b c = record { p0 = a; p1 = b; p2 = c }
 abbrev pub sizes : ℕ → ℕ → ℕ → ℕ → Size
 sizes w h source output = record { width = w; height = h; input_stride = source; output_stride = output }
 
--- a frame is 0 where it was converted
-abbrev pub packed_frame : FrameAnswer → ℕ
-packed_frame frame.Done = 0
-packed_frame (frame.Refused r) = packed_refusal r
+-- and that of a frame
+abbrev pub packed_frame : Result Unit Refusal → ℕ
+packed_frame = packed_done
 
 -- the image check: 0 or 1 from bit 8 for yes or none, and a none's row and column from bits 16 and 32
-abbrev pub packed_image : ImageAnswer → ℕ
-packed_image image.Yes = 0
-packed_image (image.NoSource place) = packed 0 1 place.row place.column 0
-packed_image (image.Refused r) = packed_refusal r
+abbrev pub packed_image : Result (Option Place) Refusal → ℕ
+packed_image (Ok None) = 0
+packed_image (Ok (Some place)) = packed 0 1 place.row place.column 0
+packed_image (Err r) = packed_refusal r
 
 -- a judgement likewise, 0 for agrees and 1 for differs; its count goes where the caller said, and is 0 where there is nothing to count
-abbrev pub packed_judgement : Judgement → ℕ
-packed_judgement judgement.Agrees = 0
-packed_judgement (judgement.Differs place n) = packed 0 1 place.row place.column 0
-packed_judgement (judgement.Refused r) = packed_refusal r
+abbrev pub packed_judgement : Result (Option Difference) Refusal → ℕ
+packed_judgement (Ok None) = 0
+packed_judgement (Ok (Some d)) = packed 0 1 d.first.row d.first.column 0
+packed_judgement (Err r) = packed_refusal r
 
-abbrev pub wrong_in : Judgement → ℕ
-wrong_in judgement.Agrees = 0
-wrong_in (judgement.Differs place n) = n
-wrong_in (judgement.Refused r) = 0
+abbrev pub wrong_in : Result (Option Difference) Refusal → ℕ
+wrong_in (Ok None) = 0
+wrong_in (Ok (Some d)) = d.count
+wrong_in (Err r) = 0
 
 -- a label is a byte: its own number, or that of the refusal
-abbrev pub packed_label : LabelAnswer → ℕ
-packed_label (label.Labelled l) = label_number l
-packed_label (label.Refused r) = r.number
+abbrev pub packed_label : Result Label Refusal → ℕ
+packed_label (Ok l) = label_number l
+packed_label (Err r) = r.number

@@ -49,7 +49,7 @@ fn leave_reading(kind: SampleKind, setting: u64, v: u16, level: &mut f32) -> u64
 {
     let answer = meters::meter_sample(kind, setting_in(setting), v);
     *level = packing::level_in(answer);
-    packing::pack_reading(answer)
+    packing::pack_done(answer)
 }
 
 pub fn corkplover_meter_y(setting: u64, v: u16, level: &mut f32) -> u64
@@ -86,5 +86,5 @@ pub fn corkplover_meter_pixel(
     *ylevel = levels.y;
     *cblevel = levels.cb;
     *crlevel = levels.cr;
-    packing::pack_levels(answer)
+    packing::pack_done(answer)
 }

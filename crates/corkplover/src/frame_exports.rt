@@ -32,7 +32,15 @@ fn leave_frame(
 {
     let s = setting_in(setting);
     let size = size_of(width, height, sourcestride, outputstride);
-    packing::pack_frame(frame::convert_frame(way, s, size, a0, a1, a2, b0, b1, b2))
+    packing::pack_done(frame::convert_frame(
+        way,
+        s,
+        size.input(a0, a1, a2),
+        size.output_stride,
+        b0,
+        b1,
+        b2,
+    ))
 }
 
 pub fn corkplover_forward_frame(

@@ -30,7 +30,7 @@ fn leave_judgement(
 {
     let s = setting_in(setting);
     let size = size_of(width, height, sourcestride, claimedstride);
-    let judgement = judge::judge_frame(way, s, size, a0, a1, a2, b0, b1, b2);
+    let judgement = judge::judge_frame(way, s, size.input(a0, a1, a2), size.output(b0, b1, b2));
     *wrong = packing::wrong_in(judgement);
     packing::pack_judgement(judgement)
 }

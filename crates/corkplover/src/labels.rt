@@ -3,25 +3,15 @@ ghost use Rattle.std.specs.Prelude.{◌≡◌};
 ghost use Rattle.corkplover.specs.Answers.{label_answer};
 
 use codes::edition;
-use codes::edition::EditionChecked;
 use codes::label::{CodeKind, Label};
 use refusal::Refusal;
 
-#[derive(Clone, Copy)]
-pub enum LabelAnswer {
-    Labelled(Label),
-    Refused(Refusal),
-}
-
-pub fn label(kind: CodeKind, edition: u8, code: u8) -> LabelAnswer
+#[tactic(auto, unfolding(crate::specs::Answers::label_answer))]
+pub fn label(kind: CodeKind, edition: u8, code: u8) -> Result<Label, Refusal>
     ensures { result ≡ label_answer kind edition code }
 {
-    match edition::edition_of(edition) {
-        EditionChecked::Edition(edition) => {
-            LabelAnswer::Labelled(codes::label::label_for(kind, edition, code))
-        }
-        EditionChecked::Unknown => {
-            LabelAnswer::Refused(Refusal::numbered(Refusal::UNKNOWN_EDITION))
-        }
-    }
+    let Some(edition) = edition::edition_of(edition) else {
+        return Err(Refusal::numbered(Refusal::UNKNOWN_EDITION));
+    };
+    Ok(codes::label::label_for(kind, edition, code))
 }

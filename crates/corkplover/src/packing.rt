@@ -1,17 +1,11 @@
 // Settings and answers as one number each, for callers in other languages.
 ghost use Rattle.std.specs.Prelude.{◌≡◌};
-ghost use Rattle.codes.specs.Label.{label_number};
-ghost use Rattle.corkplover.specs.Packing.{packed, packed_label, packed_refusal, packed_pixel, packed_reading, packed_levels, level_in, levels_in, packed_frame, packed_image, packed_judgement, wrong_in, setting_in, pixel_from, sizes};
+ghost use Rattle.corkplover.specs.Packing.{packed, packed_label, packed_refusal, packed_pixel, packed_done, level_in, levels_in, packed_image, packed_judgement, wrong_in, setting_in, pixel_from, sizes};
 
-use crate::labels::LabelAnswer;
-use crate::meters::{LevelsAnswer, Reading};
-use crate::pixels::PixelAnswer;
 use codes::label::Label;
-use frame::FrameAnswer;
-use image_check::ImageAnswer;
-use judge::Judgement;
+use judge::Difference;
 use meter::PixelLevels;
-use refusal::Refusal;
+use refusal::{Place, Refusal};
 use rows::paint::Size;
 use sample::Pixel;
 use setting::Setting;
@@ -20,64 +14,60 @@ use setting::Setting;
 pub fn pack(number: u8, second: u8, a: u16, b: u16, c: u16) -> u64
     ensures { result ≡ packed number second a b c }
 {
-    number as u64
-        + second as u64 * 256
-        + a as u64 * 65536
-        + b as u64 * 4294967296
-        + c as u64 * 281474976710656
+    u64::from(number)
+        + u64::from(second) * 256
+        + u64::from(a) * 65536
+        + u64::from(b) * 4294967296
+        + u64::from(c) * 281474976710656
 }
 
 pub fn pack_refusal(refusal: Refusal) -> u64
     ensures { result ≡ packed_refusal refusal }
 {
-    let number = refusal.number;
     let place = refusal.place;
-    let sample = refusal.sample;
-    pack(number, place.plane, place.row, place.column, sample)
+    pack(
+        refusal.number,
+        place.plane,
+        place.row,
+        place.column,
+        refusal.sample,
+    )
 }
 
-pub fn pack_pixel(answer: PixelAnswer) -> u64
+pub fn pack_pixel(answer: Result<Pixel, Refusal>) -> u64
     ensures { result ≡ packed_pixel answer }
 {
     match answer {
-        PixelAnswer::Converted(p) => pack(0, 0, p.p0, p.p1, p.p2),
-        PixelAnswer::Refused(refusal) => pack_refusal(refusal),
+        Ok(p) => pack(0, 0, p.p0, p.p1, p.p2),
+        Err(refusal) => pack_refusal(refusal),
     }
 }
 
-pub fn pack_reading(answer: Reading) -> u64
-    ensures { result ≡ packed_reading answer }
+// 0 where nothing was refused. What else the answer has goes where the caller said.
+pub fn pack_done<T: Copy>(answer: Result<T, Refusal>) -> u64
+    ensures { result ≡ packed_done answer }
 {
     match answer {
-        Reading::Level(_) => 0,
-        Reading::Refused(refusal) => pack_refusal(refusal),
+        Ok(_) => 0,
+        Err(refusal) => pack_refusal(refusal),
     }
 }
 
-pub fn level_in(answer: Reading) -> f32
+pub fn level_in(answer: Result<f32, Refusal>) -> f32
     ensures { result ≡ level_in answer }
 {
     match answer {
-        Reading::Level(level) => level,
-        Reading::Refused(_) => 0.0,
+        Ok(level) => level,
+        Err(_) => 0.0,
     }
 }
 
-pub fn pack_levels(answer: LevelsAnswer) -> u64
-    ensures { result ≡ packed_levels answer }
-{
-    match answer {
-        LevelsAnswer::Levels(_) => 0,
-        LevelsAnswer::Refused(refusal) => pack_refusal(refusal),
-    }
-}
-
-pub fn levels_in(answer: LevelsAnswer) -> PixelLevels
+pub fn levels_in(answer: Result<PixelLevels, Refusal>) -> PixelLevels
     ensures { result ≡ levels_in answer }
 {
     match answer {
-        LevelsAnswer::Levels(levels) => levels,
-        LevelsAnswer::Refused(_) => PixelLevels {
+        Ok(levels) => levels,
+        Err(_) => PixelLevels {
             y: 0.0,
             cb: 0.0,
             cr: 0.0,
@@ -89,15 +79,16 @@ pub fn levels_in(answer: LevelsAnswer) -> PixelLevels
 pub fn setting_in(word: u64) -> Setting
     ensures { result ≡ setting_in word }
 {
-    let primaries = (word % 256) as u8;
-    let transfer = (word / 256 % 256) as u8;
-    let matrix = (word / 65536 % 256) as u8;
-    let rgb_depth = (word / 16777216 % 256) as u8;
-    let y_depth = (word / 4294967296 % 256) as u8;
-    let c_depth = (word / 1099511627776 % 256) as u8;
-    let rgb_full = word / 281474976710656 % 2 == 1;
-    let ycc_full = word / 562949953421312 % 2 == 1;
-    let edition = (word / 72057594037927936 % 256) as u8;
+    let [
+        primaries,
+        transfer,
+        matrix,
+        rgb_depth,
+        y_depth,
+        c_depth,
+        flags,
+        edition,
+    ] = word.to_le_bytes();
     Setting {
         primaries,
         transfer,
@@ -105,50 +96,41 @@ pub fn setting_in(word: u64) -> Setting
         rgb_depth,
         y_depth,
         c_depth,
-        rgb_full,
-        ycc_full,
+        rgb_full: flags % 2 == 1,
+        ycc_full: flags / 2 % 2 == 1,
         edition,
     }
 }
 
-pub fn pack_frame(answer: FrameAnswer) -> u64
-    ensures { result ≡ packed_frame answer }
-{
-    match answer {
-        FrameAnswer::Done => 0,
-        FrameAnswer::Refused(refusal) => pack_refusal(refusal),
-    }
-}
-
 // Bits 8 to 15 say yes or none; a none has its row and column where a 10 has them.
-pub fn pack_image(answer: ImageAnswer) -> u64
+pub fn pack_image(answer: Result<Option<Place>, Refusal>) -> u64
     ensures { result ≡ packed_image answer }
 {
     match answer {
-        ImageAnswer::Yes => 0,
-        ImageAnswer::NoSource(place) => pack(0, 1, place.row, place.column, 0),
-        ImageAnswer::Refused(refusal) => pack_refusal(refusal),
+        Ok(None) => 0,
+        Ok(Some(place)) => pack(0, 1, place.row, place.column, 0),
+        Err(refusal) => pack_refusal(refusal),
     }
 }
 
 // The same of a judgement, whose count stands beside it.
-pub fn pack_judgement(answer: Judgement) -> u64
+pub fn pack_judgement(answer: Result<Option<Difference>, Refusal>) -> u64
     ensures { result ≡ packed_judgement answer }
 {
     match answer {
-        Judgement::Agrees => 0,
-        Judgement::Differs(place, _) => pack(0, 1, place.row, place.column, 0),
-        Judgement::Refused(refusal) => pack_refusal(refusal),
+        Ok(None) => 0,
+        Ok(Some(d)) => pack(0, 1, d.first.row, d.first.column, 0),
+        Err(refusal) => pack_refusal(refusal),
     }
 }
 
-pub fn wrong_in(answer: Judgement) -> u64
+pub fn wrong_in(answer: Result<Option<Difference>, Refusal>) -> u64
     ensures { result ≡ wrong_in answer }
 {
     match answer {
-        Judgement::Agrees => 0,
-        Judgement::Differs(_, wrong) => wrong,
-        Judgement::Refused(_) => 0,
+        Ok(None) => 0,
+        Ok(Some(d)) => d.count,
+        Err(_) => 0,
     }
 }
 
@@ -170,21 +152,11 @@ pub fn size_of(width: usize, height: usize, sourcestride: usize, outputstride: u
     }
 }
 
-fn label_number(label: Label) -> u8
-    ensures { result ≡ label_number label }
-{
-    match label {
-        Label::Assigned => 0,
-        Label::Unspecified => 1,
-        Label::Reserved => 2,
-    }
-}
-
-pub fn pack_label(answer: LabelAnswer) -> u8
+pub fn pack_label(answer: Result<Label, Refusal>) -> u8
     ensures { result ≡ packed_label answer }
 {
     match answer {
-        LabelAnswer::Labelled(label) => label_number(label),
-        LabelAnswer::Refused(refusal) => refusal.number,
+        Ok(label) => u8::from(label),
+        Err(refusal) => refusal.number,
     }
 }

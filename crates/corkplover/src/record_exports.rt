@@ -5,7 +5,7 @@ ghost use Rattle.nclx.specs.Choice.{choice};
 ghost use Rattle.corkplover.specs.RecordPacking.{packed_read, packed_choice, label_from, WrittenAfter};
 
 use crate::record_packing::label_from;
-use crate::{record_packing, records};
+use crate::{packing, record_packing, records};
 
 pub fn corkplover_read_label(record: &[u8]) -> u64
     ensures { result ≡ packed_read (label_read «record».now) }
@@ -23,7 +23,7 @@ pub fn corkplover_write_label(
     ensures { WrittenAfter (label_from primaries transfer matrix full) out.old result out.new }
 {
     let label = label_from(primaries, transfer, matrix, full);
-    record_packing::pack_check(nclx::writing::write_into(label, out))
+    packing::pack_done(nclx::writing::write_into(label, out))
 }
 
 pub fn corkplover_pick_label(container: &[u8], stream: &[u8]) -> u64

@@ -1,47 +1,40 @@
 // The answers of the calls on colour records, as one number each.
-ghost use Rattle.std.specs.Prelude.{◌≡◌};
-ghost use Rattle.corkplover.specs.RecordPacking.{packed_read, packed_check, packed_choice, label_from};
+ghost use Rattle.std.specs.Prelude.{◌≡◌, Ok};
+ghost use Rattle.corkplover.specs.RecordPacking.{packed_read, packed_choice, label_from};
 
 use crate::packing::{pack, pack_refusal};
-use nclx::picking::Choice;
-use nclx::{ColourLabel, LabelRead};
-use refusal::Check;
+use nclx::ColourLabel;
+use nclx::picking::Winner;
+use refusal::Refusal;
 
 fn pack_label(label: ColourLabel) -> u64
-    ensures { result ≡ packed_read (LabelRead.Label label) }
+    ensures { result ≡ packed_read (Ok label) }
 {
-    let full = sample::one_if(label.full);
-    let primaries = label.primaries as u16;
-    let transfer = label.transfer as u16;
-    let matrix = label.matrix as u16;
-    pack(0, full, primaries, transfer, matrix)
+    pack(
+        0,
+        u8::from(label.full),
+        u16::from(label.primaries),
+        u16::from(label.transfer),
+        u16::from(label.matrix),
+    )
 }
 
-pub fn pack_read(answer: LabelRead) -> u64
+pub fn pack_read(answer: Result<ColourLabel, Refusal>) -> u64
     ensures { result ≡ packed_read answer }
 {
     match answer {
-        LabelRead::Label(label) => pack_label(label),
-        LabelRead::Refused(refusal) => pack_refusal(refusal),
+        Ok(label) => pack_label(label),
+        Err(refusal) => pack_refusal(refusal),
     }
 }
 
-pub fn pack_check(answer: Check) -> u64
-    ensures { result ≡ packed_check answer }
-{
-    match answer {
-        Check::Passed => 0,
-        Check::Refused(refusal) => pack_refusal(refusal),
-    }
-}
-
-pub fn pack_choice(answer: Choice) -> u64
+pub fn pack_choice(answer: Result<Winner, Refusal>) -> u64
     ensures { result ≡ packed_choice answer }
 {
     match answer {
-        Choice::Container => 0,
-        Choice::Stream => pack(0, 1, 0, 0, 0),
-        Choice::Refused(refusal) => pack_refusal(refusal),
+        Ok(Winner::Container) => 0,
+        Ok(Winner::Stream) => pack(0, 1, 0, 0, 0),
+        Err(refusal) => pack_refusal(refusal),
     }
 }
 

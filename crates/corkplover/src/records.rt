@@ -4,11 +4,12 @@ ghost use Rattle.std.specs.Prelude.{◌≡◌};
 ghost use Rattle.nclx.specs.Record.{label_read, record_of};
 ghost use Rattle.nclx.specs.Choice.{choice, chosen_part, chosen_number};
 
-use nclx::picking::Choice;
-use nclx::{ColourLabel, LabelRead, RECORD_BYTES, picking, writing};
+use nclx::picking::Winner;
+use nclx::{ColourLabel, RECORD_BYTES, picking, writing};
+use refusal::Refusal;
 
 // Refusals 20 to 23.
-pub fn read_label(record: &[u8]) -> LabelRead
+pub fn read_label(record: &[u8]) -> Result<ColourLabel, Refusal>
     ensures { result ≡ label_read «record».now }
 {
     nclx::read(record)
@@ -21,7 +22,7 @@ pub fn write_label(label: ColourLabel) -> [u8; RECORD_BYTES]
 }
 
 // Who wins. Refusals 20 to 24, all of them of the container.
-pub fn pick_label(container: &[u8], stream: &[u8]) -> Choice
+pub fn pick_label(container: &[u8], stream: &[u8]) -> Result<Winner, Refusal>
     ensures { result ≡ choice container.now stream.now }
 {
     picking::pick(container, stream)

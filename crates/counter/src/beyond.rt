@@ -4,12 +4,11 @@ ghost use Rattle.sample.specs.Depth.{M, most_depth, plane_depth};
 ghost use Rattle.setting.specs.Rules.{depths};
 
 use crate::wording;
-use output::{number, say};
 use refusal::Refusal;
 use request::Request;
 use sample::{MOST_DEPTH, Side};
 use setting::Setting;
-use std::io;
+use std::{fmt, io};
 
 // The depth of a plane, in bits.
 fn depth_of(side: Side, s: Setting, plane: u8) -> u8
@@ -17,12 +16,8 @@ fn depth_of(side: Side, s: Setting, plane: u8) -> u8
 {
     match side {
         Side::Rgb => s.rgb_depth,
-        Side::Ycc => {
-            if plane == 0 {
-                return s.y_depth;
-            }
-            s.c_depth
-        }
+        Side::Ycc if plane == 0 => s.y_depth,
+        Side::Ycc => s.c_depth,
     }
 }
 
@@ -30,43 +25,44 @@ fn depth_of(side: Side, s: Setting, plane: u8) -> u8
 fn largest(depth: u8) -> u16
     ensures { result ≡ M (min depth most_depth) }
 {
-    if depth < MOST_DEPTH {
-        return sample::largest(depth);
-    }
-    sample::largest(MOST_DEPTH)
+    sample::largest(depth.min(MOST_DEPTH))
 }
 
-fn plane_name(rt: &impl Print, side: Side, plane: u8) -> io::Result<()> {
-    match side {
-        Side::Rgb => match plane {
-            0 => say(rt, b"R"),
-            1 => say(rt, b"G"),
-            _ => say(rt, b"B"),
-        },
-        Side::Ycc => match plane {
-            0 => say(rt, b"Y"),
-            1 => say(rt, b"Cb"),
-            _ => say(rt, b"Cr"),
-        },
+// A plane, by its name.
+#[derive(Clone, Copy)]
+struct Plane {
+    side: Side,
+    number: u8,
+}
+
+impl fmt::Display for Plane {
+    fn fmt<W: fmt::Write>(&self, f: &mut fmt::Formatter<W>) -> fmt::Result {
+        f.write_str(match (self.side, self.number) {
+            (Side::Rgb, 0) => "R",
+            (Side::Rgb, 1) => "G",
+            (Side::Rgb, _) => "B",
+            (Side::Ycc, 0) => "Y",
+            (Side::Ycc, 1) => "Cb",
+            (Side::Ycc, _) => "Cr",
+        })
     }
 }
 
 fn on_side(rt: &impl Print, side: Side, s: Setting, r: Refusal) -> io::Result<()> {
-    let place = r.place;
-    let depth = depth_of(side, s, place.plane);
-    say(rt, b"sample ")?;
-    number(rt, r.sample as u64)?;
-    say(rt, b" of plane ")?;
-    plane_name(rt, side, place.plane)?;
-    say(rt, b" at row ")?;
-    number(rt, place.row as u64)?;
-    say(rt, b", column ")?;
-    number(rt, place.column as u64)?;
-    say(rt, b" is above ")?;
-    number(rt, largest(depth) as u64)?;
-    say(rt, b", the largest at depth ")?;
-    number(rt, depth as u64)?;
-    say(rt, b"; correct the sample, or the depth")
+    let plane = Plane {
+        side,
+        number: r.place.plane,
+    };
+    let depth = depth_of(side, s, r.place.plane);
+    print!(rt;
+        "sample {} of plane {plane} at row {}, column {}",
+        r.sample, r.place.row, r.place.column
+    )?;
+    print!(rt;
+        " is above {}, the largest at depth {depth}",
+        largest(depth)
+    )?;
+    print!(rt; "; correct the sample, or the depth")
 }
 
 // What a request was refused for with a 10. A label has no samples.

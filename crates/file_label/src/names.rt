@@ -1,52 +1,68 @@
-// What the codes of a colour label stand for, in words.
-use output::say;
-use std::io;
+// The codes of a colour label, each with what it stands for.
+use std::fmt;
 
-pub fn primaries(rt: &impl Print, code: u16) -> io::Result<()> {
-    match code {
-        1 => say(rt, b"BT.709"),
-        2 => say(rt, b"unspecified"),
-        4 => say(rt, b"BT.470M"),
-        5 => say(rt, b"BT.470BG"),
-        6 => say(rt, b"BT.601 525"),
-        7 => say(rt, b"SMPTE 240M"),
-        8 => say(rt, b"film"),
-        9 => say(rt, b"BT.2020"),
-        10 => say(rt, b"SMPTE ST 428"),
-        11 => say(rt, b"DCI-P3"),
-        12 => say(rt, b"Display P3"),
-        22 => say(rt, b"EBU Tech 3213"),
-        _ => say(rt, b"reserved"),
+#[derive(Clone, Copy)]
+pub struct Primaries(pub u16);
+
+impl fmt::Display for Primaries {
+    fn fmt<W: fmt::Write>(&self, f: &mut fmt::Formatter<W>) -> fmt::Result {
+        let name = match self.0 {
+            1 => "BT.709",
+            2 => "unspecified",
+            4 => "BT.470M",
+            5 => "BT.470BG",
+            6 => "BT.601 525",
+            7 => "SMPTE 240M",
+            8 => "film",
+            9 => "BT.2020",
+            10 => "SMPTE ST 428",
+            11 => "DCI-P3",
+            12 => "Display P3",
+            22 => "EBU Tech 3213",
+            _ => "reserved",
+        };
+        write!(f, "{} ({name})", self.0)
     }
 }
 
-pub fn transfer(rt: &impl Print, code: u16) -> io::Result<()> {
-    match code {
-        1 => say(rt, b"BT.709"),
-        2 => say(rt, b"unspecified"),
-        4 => say(rt, b"gamma 2.2"),
-        5 => say(rt, b"gamma 2.8"),
-        6 => say(rt, b"BT.601"),
-        7 => say(rt, b"SMPTE 240M"),
-        8 => say(rt, b"linear"),
-        9 => say(rt, b"log 100:1"),
-        10 => say(rt, b"log 316:1"),
-        11 => say(rt, b"xvYCC"),
-        12 => say(rt, b"BT.1361"),
-        13 => say(rt, b"sRGB"),
-        14 => say(rt, b"BT.2020 10-bit"),
-        15 => say(rt, b"BT.2020 12-bit"),
-        16 => say(rt, b"PQ"),
-        17 => say(rt, b"SMPTE ST 428"),
-        18 => say(rt, b"HLG"),
-        _ => say(rt, b"reserved"),
+#[derive(Clone, Copy)]
+pub struct Transfer(pub u16);
+
+impl fmt::Display for Transfer {
+    fn fmt<W: fmt::Write>(&self, f: &mut fmt::Formatter<W>) -> fmt::Result {
+        let name = match self.0 {
+            1 => "BT.709",
+            2 => "unspecified",
+            4 => "gamma 2.2",
+            5 => "gamma 2.8",
+            6 => "BT.601",
+            7 => "SMPTE 240M",
+            8 => "linear",
+            9 => "log 100:1",
+            10 => "log 316:1",
+            11 => "xvYCC",
+            12 => "BT.1361",
+            13 => "sRGB",
+            14 => "BT.2020 10-bit",
+            15 => "BT.2020 12-bit",
+            16 => "PQ",
+            17 => "SMPTE ST 428",
+            18 => "HLG",
+            _ => "reserved",
+        };
+        write!(f, "{} ({name})", self.0)
     }
 }
 
 // A matrix goes by its number alone, but where that leaves it open.
-pub fn matrix(rt: &impl Print, code: u16) -> io::Result<()> {
-    if code == 2 {
-        return say(rt, b" (unspecified)");
+#[derive(Clone, Copy)]
+pub struct Matrix(pub u16);
+
+impl fmt::Display for Matrix {
+    fn fmt<W: fmt::Write>(&self, f: &mut fmt::Formatter<W>) -> fmt::Result {
+        match self.0 {
+            2 => f.write_str("2 (unspecified)"),
+            code => write!(f, "{code}"),
+        }
     }
-    Ok(())
 }

@@ -14,8 +14,6 @@ use Rattle.fixed.specs.declared.reduce.Reduced.{Reduced}
 use Rattle.fixed.specs.declared.lift.Lift.{Lift}
 use Rattle.fixed.specs.declared.words.Weight as words
 use Rattle.fixed.specs.declared.words.Words.{Words}
-use Rattle.fixed.specs.declared.words.Prepared.{Prepared}
-use Rattle.fixed.specs.declared.words.Prepared.TheVariants.{Made, Nothing}
 
 -- Reducing: g divides twice a line's numbers, with the half that Round adds among them.
 pub record Factor (l : Line) (g : ℕ) : Type 0 where
@@ -125,7 +123,3 @@ pub record Good (l : Line) (most : ℕ) (w : Words) : Type 0 where
   pub fits : WordsFit w
   pub stands : Stands l (numbers_of w)
   pub most_is : w.most ≡ most
-
-abbrev pub Answered : Line → ℕ → Prepared → Type 0
-Answered l most (Made w) = Good l most w
-Answered l most Nothing = Unit

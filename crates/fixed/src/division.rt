@@ -1,5 +1,5 @@
 // Numbers over e in parts of 2^(32 + k), rounded down: long divisions, a bit a step, once for each number of a line.
-ghost use Rattle.std.specs.Prelude.{◌*◌, ◌-◌, ◌/◌, ◌^◌, ◌≤◌, ◌<◌};
+ghost use Rattle.std.specs.Prelude.{◌*◌, ◌-◌, ◌/◌, ◌^◌, ◌≤◌, ◌<◌, IfSome};
 ghost use Rattle.sample.specs.Depth.{past_samples};
 ghost use Rattle.fixed.specs.Words.{past_words, word};
 ghost use Rattle.fixed.specs.Steps.{Parts, BitsFit, InWords};
@@ -23,18 +23,17 @@ fn step(p: Part, e: u64) -> Part
     requires { BitsFit p e 1 }
     ensures { Parts p e 2 result }
 {
-    let whole = p.whole;
-    let rest = p.rest;
-    let twice = 2 * rest;
+    let twice = 2 * p.rest;
     if twice < e {
-        return Part {
-            whole: 2 * whole,
+        Part {
+            whole: 2 * p.whole,
             rest: twice,
-        };
-    }
-    Part {
-        whole: 2 * whole + 1,
-        rest: twice - e,
+        }
+    } else {
+        Part {
+            whole: 2 * p.whole + 1,
+            rest: twice - e,
+        }
     }
 }
 
@@ -58,19 +57,20 @@ pub fn scaled(a: u64, e: u64, k: u32) -> Wide
     requires e_bound_2 { a / e < past_samples }
     ensures { InWords (past_words * 2 ^ k * a / e) result }
 {
-    let whole = a / e;
-    let left = a % e;
-    let start = Part { whole, rest: left };
+    let start = Part {
+        whole: a / e,
+        rest: a % e,
+    };
     let upper = bits(start, e, k);
-    let high = upper.whole;
-    let over = upper.rest;
     let next = Part {
         whole: 0,
-        rest: over,
+        rest: upper.rest,
     };
     let lower = bits(next, e, 32);
-    let low = lower.whole;
-    Wide { high, low }
+    Wide {
+        high: upper.whole,
+        low: lower.whole,
+    }
 }
 
 // A number of two words, less one.
@@ -79,29 +79,32 @@ pub fn one_less(w: Wide) -> Wide
     requires low_lt_past_words { w.low < past_words }
     ensures { InWords (word w.high w.low - 1) result }
 {
-    let high = w.high;
-    let low = w.low;
-    if low < 1 {
-        return Wide {
-            high: high - 1,
-            low: 4294967295,
-        };
+    if w.low == 0 {
+        Wide {
+            high: w.high - 1,
+            low: (1 << 32) - 1,
+        }
+    } else {
+        Wide {
+            high: w.high,
+            low: w.low - 1,
+        }
     }
-    Wide { high, low: low - 1 }
 }
 
-// The first k at which n e is at most 2^(32 + k), found by halving e; 35 where it is past 34.
-pub fn shift_for(n: u64, e: u64) -> u32
+// The first k of 0 to 34 at which n e is at most 2^(32 + k), found by halving e.
+pub fn shift_for(n: u64, e: u64) -> Option<u32>
     requires { 0 < n }
-    ensures { result ≤ 34 → n * e ≤ past_words * 2 ^ result }
+    ensures fine { IfSome result (λ k. n * e ≤ past_words * 2 ^ k) }
+    ensures upper_bound { IfSome result (λ k. k ≤ 34) }
 {
-    let most = 4294967296 / n;
+    let most = (1 << 32) / n;
     let mut rest = e;
     for k in 0..35u32 {
         if rest <= most {
-            return k;
+            return Some(k);
         }
         rest -= rest / 2;
     }
-    35
+    None
 }

@@ -1,46 +1,31 @@
 // What is added to a line, in whole numbers, so that nothing of it is below zero.
-ghost use Rattle.std.specs.Prelude.{◌≡◌, ◌≤◌, ◌<◌, max};
+ghost use Rattle.std.specs.Prelude.{◌≤◌, ◌<◌, IfSome};
 ghost use Rattle.levels.specs.Conversion.{most_sample};
 ghost use Rattle.fixed.specs.Steps.{Lifts};
 
 use crate::reduce::Reduced;
 
-// The lift, and the constant that a line has then, over its e: 0 where there is no room.
+// The lift, and the constant that a line has then, over its e.
 #[derive(Clone, Copy)]
 pub struct Lift {
     pub by: u64,
     pub c: u64,
 }
 
-pub fn larger(p: u64, q: u64) -> u64
-    ensures { result ≡ max p q }
-{
-    if p < q {
-        return q;
-    }
-    p
-}
-
-// The least lift that makes the constant more than 0, or mid where that is more.
-pub fn lifted(r: Reduced, mid: u64) -> Lift
+// The least lift that makes the constant more than 0, or mid where that is more, if there is room.
+pub fn lifted(r: Reduced, mid: u64) -> Option<Lift>
     requires e_nonzero { 0 < r.e }
     requires mid_le_most_sample { mid ≤ most_sample }
-    ensures { 0 < result.c → Lifts r mid result }
+    ensures { IfSome result (λ v. Lifts r mid v) }
 {
-    let e = r.e;
-    let plus = r.plus;
-    let minus = r.minus;
-    let whole = minus / e;
-    if 65534 < whole {
-        return Lift { by: 0, c: 0 };
+    let whole = r.minus / r.e;
+    if sample::PAST_SAMPLES - 1 <= whole {
+        return None;
     }
-    let by = larger(whole + 1, mid);
-    if 4611686018427387904 / e < by {
-        return Lift { by: 0, c: 0 };
+    let by = (whole + 1).max(mid);
+    if (1 << 62) / r.e < by || 1 << 62 < r.plus {
+        return None;
     }
-    if 4611686018427387904 < plus {
-        return Lift { by: 0, c: 0 };
-    }
-    let c = by * e - minus + plus;
-    Lift { by, c }
+    let c = by * r.e - r.minus + r.plus;
+    Some(Lift { by, c })
 }

@@ -1,5 +1,5 @@
 // A line in lowest terms: twice its numbers, so that the half that Round adds is whole too, over what divides them all.
-ghost use Rattle.std.specs.Prelude.{◌≡◌, ◌+◌, ◌*◌, ◌≤◌, ◌<◌};
+ghost use Rattle.std.specs.Prelude.{◌≤◌, ◌<◌};
 ghost use Rattle.std.specs.Int.{◌∣◌};
 ghost use Rattle.levels.specs.Conversion.{most_sample};
 ghost use Rattle.levels.specs.Room.{Room};
@@ -35,29 +35,17 @@ pub struct Reduced {
     pub minus: u64,
 }
 
-fn distance(p: u64, q: u64) -> u64
-    ensures { result ≡ distance p q }
-{
-    if p < q {
-        return q - p;
-    }
-    p - q
-}
-
 // What divides all the numbers of a line, twice each.
 fn factor(line: Line) -> u64
     requires { Room line }
     ensures { Factor line result }
 {
-    let equation = line.equation;
-    let up = line.up;
-    let down = line.down;
-    let over = equation.over;
-    let n0 = 2 * distance(equation.up0, equation.down0);
-    let n1 = 2 * distance(equation.up1, equation.down1);
-    let n2 = 2 * distance(equation.up2, equation.down2);
-    let n = distance(2 * up + over, 2 * down);
-    let g0 = common(2 * over, n0);
+    let w = line.equation;
+    let n0 = 2 * w.up0.abs_diff(w.down0);
+    let n1 = 2 * w.up1.abs_diff(w.down1);
+    let n2 = 2 * w.up2.abs_diff(w.down2);
+    let n = (2 * line.up + w.over).abs_diff(2 * line.down);
+    let g0 = common(2 * w.over, n0);
     let g1 = common(g0, n1);
     let g2 = common(g1, n2);
     common(g2, n)
@@ -68,21 +56,19 @@ fn turned(up: u64, down: u64, g: u64, most: u16) -> Size
     requires { Turns up down g most }
     ensures { Turned up down g most result }
 {
-    let largest = most as u64;
     if up < down {
         let a = 2 * (down - up) / g;
-        let moved = a * largest;
-        return Size {
+        Size {
             a,
             mark: most,
-            moved,
-        };
-    }
-    let a = 2 * (up - down) / g;
-    Size {
-        a,
-        mark: 0,
-        moved: 0,
+            moved: a * (most as u64),
+        }
+    } else {
+        Size {
+            a: 2 * (up - down) / g,
+            mark: 0,
+            moved: 0,
+        }
     }
 }
 
@@ -93,41 +79,37 @@ fn parted(p: u64, q: u64, g: u64) -> Difference
     ensures { Parted p q g result }
 {
     if p < q {
-        let minus = (q - p) / g;
-        return Difference { plus: 0, minus };
+        Difference {
+            plus: 0,
+            minus: (q - p) / g,
+        }
+    } else {
+        Difference {
+            plus: (p - q) / g,
+            minus: 0,
+        }
     }
-    let plus = (p - q) / g;
-    Difference { plus, minus: 0 }
 }
 
-// A line in lowest terms, for samples up to `most`.
+// A line in lowest terms, for samples up to `most`. That bound is a clause wherever it stands: a type for it would be opened again at each use of `most`.
 pub fn reduce(line: Line, most: u16) -> Reduced
     requires room { Room line }
     requires most_le_most_sample { most ≤ most_sample }
     ensures { Reduces line most result }
 {
-    let equation = line.equation;
-    let up = line.up;
-    let down = line.down;
-    let over = equation.over;
+    let w = line.equation;
     let g = factor(line);
-    let e = 2 * over / g;
-    let first = turned(equation.up0, equation.down0, g, most);
-    let second = turned(equation.up1, equation.down1, g, most);
-    let third = turned(equation.up2, equation.down2, g, most);
-    let constant = parted(2 * up + over, 2 * down, g);
-    let moved0 = first.moved;
-    let moved1 = second.moved;
-    let moved2 = third.moved;
-    let below = constant.minus;
-    let plus = constant.plus;
-    let minus = moved0 + moved1 + moved2 + below;
+    let first = turned(w.up0, w.down0, g, most);
+    let second = turned(w.up1, w.down1, g, most);
+    let third = turned(w.up2, w.down2, g, most);
+    let constant = parted(2 * line.up + w.over, 2 * line.down, g);
+    let minus = first.moved + second.moved + third.moved + constant.minus;
     Reduced {
-        e,
+        e: 2 * w.over / g,
         first,
         second,
         third,
-        plus,
+        plus: constant.plus,
         minus,
     }
 }

@@ -10,12 +10,13 @@ use lib.ListN.{length}
 use Rattle.sample.specs.declared.Pixel.{Pixel}
 use Rattle.tables.specs.Table.{patched, cleared}
 use Rattle.tables.proofs.Tables.{part_width}
-use Rattle.planes.specs.Picture.{Picture, layout_of, pixel_of, sample_of, EveryPixel}
+use Rattle.planes.specs.Three.{three, row_parts}
+use Rattle.planes.specs.Picture.{Picture, rows_of, layout_of, pixel_of, sample_of, EveryPixel}
 use Rattle.planes.specs.Sizes.{layout, needed, Long, RowStart, Fits}
 use Rattle.planes.specs.declared.size.Layout.{Layout}
 use Rattle.planes.proofs.Painted.{Progress, progress_none, progress_more, Painted, painted_none, painted_more, painted_whole, painted_end}
 use Rattle.planes.proofs.SizeLaws.{index_inside, needed_whole}
-use Rattle.convert.specs.Row.{row_part, EveryOf}
+use Rattle.convert.specs.Row.{EveryOf}
 use Rattle.convert.proofs.RunLaws.{Run, row_run, whole_run, run_pixel, pixel_of_part, run_of_every}
 use Rattle.rows.specs.Paint.{mapped_part, RowsPut}
 use Rattle.rows.proofs.RowLaws.{Seen}
@@ -77,12 +78,12 @@ module _ {f : Pixel → Pixel} {a : Picture} {b : Layout} {y0 y1 y2 : List ℕ} 
 
   -- a fact of every pixel of the picture is one of the row's
   pub row_of_every : (fact : Pixel → Type 0) → EveryPixel fact a
-      → EveryOf fact (row_part a.p0 from a.width) (row_part a.p1 from a.width) (row_part a.p2 from a.width)
+      → EveryOf fact (row_parts (rows_of a) from a.width)
   row_of_every fact e = run_of_every row_turned fact e input_long.long0
 
   -- and rows that were all seen to have it are one more with this one
   pub seen_more : (fact : Pixel → Type 0) → Seen fact a j
-      → EveryOf fact (row_part a.p0 from a.width) (row_part a.p1 from a.width) (row_part a.p2 from a.width) → Seen fact a (j + 1)
+      → EveryOf fact (row_parts (rows_of a) from a.width) → Seen fact a (j + 1)
   seen_more fact before here =
       record {
         each = below_more (λ k. (i : ℕ) → i < a.width → fact (pixel_of a k i)) j before.each
@@ -91,7 +92,7 @@ module _ {f : Pixel → Pixel} {a : Picture} {b : Layout} {y0 y1 y2 : List ℕ} 
 
   -- y was zeroed up to the row, and then had the row put into its own part
   turned : (n : ℕ) {y z w : List ℕ} → to + a.width ≤ length_of n b → RowsPainted f a b n y j done
-      → z ≡ cleared y done to → w ≡ patched z to (to + a.width) (mapped_part n f from a.width a.p0 a.p1 a.p2)
+      → z ≡ cleared y done to → w ≡ patched z to (to + a.width) (mapped_part n f from a.width (rows_of a))
       → RowsPainted f a b n w (j + 1) (to + a.width)
   turned n k p e g =
       painted_more _ _ _ _ _ _ _ _ _ j done to _ _ p t.so_far.fits.sized.stride_within.from_least t.row_inside
@@ -99,7 +100,7 @@ module _ {f : Pixel → Pixel} {a : Picture} {b : Layout} {y0 y1 y2 : List ℕ} 
       (λ i o. ap (λ q. sample_of n (f q)) (run_pixel row_turned i o)) g
 
   pub painting_more : {z0 z1 z2 w0 w1 w2 : List ℕ} → Zeroed done to to to y0 y1 y2 z0 z1 z2
-      → RowsPut f from to a.width a.p0 a.p1 a.p2 z0 z1 z2 w0 w1 w2 → Painting f a b w0 w1 w2 (j + 1) (to + a.width)
+      → RowsPut f from to a.width (rows_of a) (three z0 z1 z2) (three w0 w1 w2) → Painting f a b w0 w1 w2 (j + 1) (to + a.width)
   painting_more e g =
       let d = t.so_far in
       let k = output_long.1 in
@@ -136,22 +137,22 @@ module _ {a : Picture} {b : Layout} {n : ℕ} (t : Whole a b n) where
   whole_room = let k = inside_both in (omega arith, omega arith)
 
   -- a fact of every pixel of the picture is one of the run's, and the other way round
-  pub whole_of_every : (fact : Pixel → Type 0) → EveryPixel fact a → EveryOf fact (row_part a.p0 0 n) (row_part a.p1 0 n) (row_part a.p2 0 n)
+  pub whole_of_every : (fact : Pixel → Type 0) → EveryPixel fact a → EveryOf fact (row_parts (rows_of a) 0 n)
   whole_of_every fact h = run_of_every whole_lent fact h whole_room.0.long0
 
-  pub every_of_whole : (fact : Pixel → Type 0) → EveryOf fact (row_part a.p0 0 n) (row_part a.p1 0 n) (row_part a.p2 0 n) → EveryPixel fact a
+  pub every_of_whole : (fact : Pixel → Type 0) → EveryOf fact (row_parts (rows_of a) 0 n) → EveryPixel fact a
   every_of_whole fact h j i p q =
       pixel_of_part a 0 n fact whole_room.0.long0 h (j * a.stride + i) j i (zero-add _)
       (omega (arith, t.long_as, ap (λ k. needed a.width a.height k) t.input_close, index_inside a.width a.height a.stride j i p q))
 
   covered : (f : Pixel → Pixel) (k : ℕ) (y : List ℕ) {w : List ℕ} → length y ≡ length_of k b → n ≤ length_of k b
-      → w ≡ patched y 0 (0 + n) (mapped_part k f 0 n a.p0 a.p1 a.p2) → RowsPainted f a b k w a.height n
+      → w ≡ patched y 0 (0 + n) (mapped_part k f 0 n (rows_of a)) → RowsPainted f a b k w a.height n
   covered f k y l h g =
       painted_whole _ _ _ _ _ y _ _ n _ _ l t.output_close t.input_fits.sized.width_within.from_least all h refl
       (part_width a.p0 0 n (let k = inside_both in omega arith)) (λ i o. ap (λ q. sample_of k (f q)) (run_pixel whole_lent i o)) g
 
   pub painting_whole : {f : Pixel → Pixel} (y0 y1 y2 : List ℕ) {w0 w1 w2 : List ℕ} → length y0 ≡ b.n0 → length y1 ≡ b.n1 → length y2 ≡ b.n2
-      → RowsPut f 0 0 n a.p0 a.p1 a.p2 y0 y1 y2 w0 w1 w2 → Painting f a b w0 w1 w2 a.height n
+      → RowsPut f 0 0 n (rows_of a) (three y0 y1 y2) (three w0 w1 w2) → Painting f a b w0 w1 w2 a.height n
   painting_whole {f} y0 y1 y2 l0 l1 l2 g =
       let k = inside_both.1 in
       record {

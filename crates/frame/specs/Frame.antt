@@ -1,13 +1,11 @@
 -- A frame, converted: what is answered, and what each output plane then holds. Of an output plane only its length counts: what it
 -- held before is nowhere here.
-use Rattle.std.specs.Prelude.{◌≡◌, Bool, true, List, [], ◌∷◌, ℕ, get_or}
+use Rattle.std.specs.Prelude.{◌≡◌, Bool, true, List, [], ◌∷◌, ℕ, get_or, Result, Ok, Err}
 use Rattle.sample.specs.Depth.{InsideOf}
 use Rattle.sample.specs.declared.Pixel.{Pixel}
 use Rattle.setting.specs.Call.{input_of}
 use Rattle.setting.specs.declared.Setting.{Setting}
 use Rattle.setting.specs.declared.Way.{Way}
-use Rattle.setting.specs.declared.admission.Admission.{Admission}
-use Rattle.setting.specs.declared.admission.Admission.TheVariants as admission
 use Rattle.setting.specs.declared.admission.Served.{Served}
 use Rattle.tables.specs.Table.{zeros}
 use Rattle.scan.specs.First.{NotAbove, Tells}
@@ -16,15 +14,14 @@ use Rattle.planes.specs.Plane.{plane_of}
 use Rattle.planes.specs.declared.size.Layout.{Layout}
 use Rattle.plan.specs.Conversion.{convert}
 use Rattle.admit.specs.Rules.{frame_admission}
-use Rattle.frame.specs.declared.FrameAnswer.{FrameAnswer}
-use Rattle.frame.specs.declared.FrameAnswer.TheVariants.{Done, Refused}
+use Rattle.refusal.specs.declared.Refusal.{Refusal}
 
-abbrev pub frame_by : Admission → FrameAnswer
-frame_by (admission.Admitted x) = Done
-frame_by (admission.Refused r) = Refused r
+abbrev pub frame_by : Result Served Refusal → Result Unit Refusal
+frame_by (Ok x) = Ok tt
+frame_by (Err r) = Err r
 
 -- THE answer of a conversion
-unfoldable pub frame_answer : Way → Setting → Picture → Layout → FrameAnswer
+unfoldable pub frame_answer : Way → Setting → Picture → Layout → Result Unit Refusal
 frame_answer way s a b = frame_by (frame_admission way s a b)
 
 -- a picture by a function of its pixels: the sample of plane k at row j and column i, and the plane of n elements
@@ -39,9 +36,9 @@ abbrev pub converted_plane : ℕ → Way → Served → Picture → ℕ → ℕ 
 converted_plane k way x a stride n = mapped_plane k (convert way x) a stride n
 
 -- the converted plane where nothing refuses, and else zeros
-abbrev pub plane_by : Admission → ℕ → Way → Picture → ℕ → ℕ → List ℕ
-plane_by (admission.Admitted x) k way a stride n = converted_plane k way x a stride n
-plane_by (admission.Refused r) k way a stride n = zeros n
+abbrev pub plane_by : Result Served Refusal → ℕ → Way → Picture → ℕ → ℕ → List ℕ
+plane_by (Ok x) k way a stride n = converted_plane k way x a stride n
+plane_by (Err r) k way a stride n = zeros n
 
 -- how many elements plane k of a layout has
 abbrev pub length_of : ℕ → Layout → ℕ
@@ -55,8 +52,12 @@ out_plane k way s a b = plane_by (frame_admission way s a b) k way a b.stride (l
 abbrev pub PlanesAfter : Way → Setting → Picture → Layout → List ℕ → List ℕ → List ℕ → Type 0
 PlanesAfter way s a b p0 p1 p2 = (p0 ≡ out_plane 0 way s a b) × ((p1 ≡ out_plane 1 way s a b) × (p2 ≡ out_plane 2 way s a b))
 
-abbrev pub FrameAfter : Way → Setting → Picture → Layout → FrameAnswer → List ℕ → List ℕ → List ℕ → Type 0
+abbrev pub FrameAfter : Way → Setting → Picture → Layout → Result Unit Refusal → List ℕ → List ℕ → List ℕ → Type 0
 FrameAfter way s a b x p0 p1 p2 = (x ≡ frame_answer way s a b) × PlanesAfter way s a b p0 p1 p2
+
+-- the same of an attempt: where it is refused the planes hold whatever they hold
+abbrev pub AttemptAfter : Way → Setting → Picture → Layout → Result Unit Refusal → List ℕ → List ℕ → List ℕ → Type 0
+AttemptAfter way s a b x p0 p1 p2 = (x ≡ frame_answer way s a b) × (x ≡ Ok tt → PlanesAfter way s a b p0 p1 p2)
 
 -- a picture by such a function, in three planes of layout b
 abbrev pub MappedPlanes : (Pixel → Pixel) → Picture → Layout → List ℕ → List ℕ → List ℕ → Type 0

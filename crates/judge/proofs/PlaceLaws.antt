@@ -1,49 +1,47 @@
 -- From runs of pixels to the places of a picture: a row at a time, and all rows as one.
+use Rattle.std.specs.Prelude.{Option, Some, None}
 use mathlib.Core.Path.{◌≡◌, refl, sym, ap, ◌∙◌, subst}
 use mathlib.Core.Bool.{Bool, true, false}
 use mathlib.Core.Logic.{◌↔◌, ⊎_elim}
 use Prim.Native.Nat.{ℕ, zero, suc, ◌+◌, ◌*◌, ◌/◌, ◌%◌, ◌≤◌, ◌<◌}
 use native.Mathlib.Nat.{zero-mul, suc-mul, mod-lt, div-add-mod', div-lt_iff_lt-mul, mul-le-mul_right}
 use native.Mathlib.Omega.{arith}
-use borrow.Author.Tests.{le-leb, lt-leb}
+use Rattle.std.proofs.Common.{Option, Some, None}
 use Rattle.refusal.specs.Rules.{at}
 use Rattle.sample.proofs.Choices.{below_or_not}
 use Rattle.planes.proofs.Painted.{row_of, column_of}
 use Rattle.scan.specs.First.{Before, or_found, first_of, place_if, place_in_row, first_place}
-use Rattle.scan.specs.declared.Found.{Found}
-use Rattle.scan.specs.declared.Found.TheVariants.{At, Nothing}
 use Rattle.scan.proofs.Searches.{nothing_exactly, found_exactly, no_place_means, first_place_means}
-use Rattle.compare.specs.Count.{count_of, count_places, FirstAt}
+use Rattle.compare.specs.Count.{count_of, count_places, FirstFound}
 use Rattle.compare.proofs.CountLaws.{count_parts, count_same, count_most, none_counted, counted_none}
 use Rattle.judge.specs.Judge.{or_row, found_in}
+use Rattle.refusal.specs.declared.Place.{Place}
 
 -- ---- row by row
 
 -- the first place of a row, by the first column that passes
-row_found : (test : ℕ → ℕ → Bool) (width j first : ℕ) → FirstAt (test j) width first → or_row Nothing j first width ≡ place_in_row test 0 width j
+row_found : (test : ℕ → ℕ → Bool) (width j : ℕ) (first : Option ℕ) → FirstFound (test j) width first → or_row None j first ≡ place_in_row test 0 width j
 unfolding place_in_row place_if or_found
-row_found test width j first f =
-    ⊎_elim
-    (λ (l : first < width).
-    rw (lt-leb width first l)
-    (sym ((found_exactly (place_if test 0 j) width (at 0 j first)).1
-    (record { index = first; inside = l; there = rw (f.passes l); none = λ i h. rw (f.none_before i h) }))))
-    (λ (l : width ≤ first). rw (le-leb width first l) (sym ((nothing_exactly (place_if test 0 j) width).1 (λ i h. rw (f.none_before i (omega arith))))))
-    (below_or_not first width)
+row_found test width j (Some i) f =
+    let l = f.inside i refl in
+    sym ((found_exactly (place_if test 0 j) width (at 0 j i)).1
+    (record { index = i; inside = l; there = rw (f.first_at.passes l); none = λ k h. rw (f.first_at.none_before k h) }))
+row_found test width j None f =
+    sym ((nothing_exactly (place_if test 0 j) width).1 (λ i h. rw (f.first_at.none_before i h)))
 
 -- what was found, and then a row
-or_nothing : (f g : Found) → or_found f g ≡ or_found f (or_found Nothing g)
+or_nothing : (f g : Option Place) → or_found f g ≡ or_found f (or_found None g)
 unfolding or_found
-or_nothing (At place) g = refl
-or_nothing Nothing g = refl
+or_nothing (Some place) g = refl
+or_nothing None g = refl
 
-pub places_none : (test : ℕ → ℕ → Bool) (width : ℕ) → (Nothing ≡ first_place test 0 width 0) × (0 ≡ count_places test width 0)
+pub places_none : (test : ℕ → ℕ → Bool) (width : ℕ) → (None ≡ first_place test 0 width 0) × (0 ≡ count_places test width 0)
 unfolding first_place first_of count_places
 places_none test width = (refl, refl)
 
 module _ (test : ℕ → ℕ → Bool) (width j : ℕ) where
-  pub row_first : (found : Found) (first : ℕ) → found ≡ first_place test 0 width j → FirstAt (test j) width first
-      → or_row found j first width ≡ first_place test 0 width (j + 1)
+  pub row_first : (found : Option Place) (first : Option ℕ) → found ≡ first_place test 0 width j → FirstFound (test j) width first
+      → or_row found j first ≡ first_place test 0 width (j + 1)
   unfolding first_place first_of
   row_first found first e f =
       or_nothing found _
@@ -78,7 +76,7 @@ module _ (test : ℕ → ℕ → Bool) (width : ℕ) (some : 0 < width) where
       ∙ count_parts (j * width) width flat
       ∙ (λ t. all_counted j t + count_same width (λ k. flat (j * width + k)) (test j) (λ k l. at_place j k l) t)
 
-  module _ (height first : ℕ) (f : FirstAt flat (height * width) first) where
+  module _ (height : ℕ) where
     -- an earlier place has a smaller index
     index_before : (j i row column : ℕ) → i < width → Before j i row column → j * width + i < row * width + column
     index_before j i row column l o =
@@ -92,26 +90,22 @@ module _ (test : ℕ → ℕ → Bool) (width : ℕ) (some : 0 < width) where
     itself : (b : Bool) (j i : ℕ) → j < height → i < width → (test j i ≡ b) ↔ (test j i ≡ b)
     itself b j i l m = (λ e. e, λ e. e)
 
-    passes_before : (j i : ℕ) → i < width → j * width + i < first → test j i ≡ false
-    passes_before j i l h = sym (at_place j i l) ∙ f.none_before (j * width + i) h
-
-    pub all_first : found_in first (height * width) width ≡ first_place test 0 width height
-    all_first =
-        ⊎_elim
-        (λ (l : first < height * width).
-        rw (lt-leb (height * width) first l)
-        (sym ((first_place_means test 0 width height _ _ (itself true) (itself false) (at 0 (first / width) (first % width))).1
+    pub all_first : (first : Option ℕ) → FirstFound flat (height * width) first → found_in first width ≡ first_place test 0 width height
+    all_first (Some k) f =
+        let l = f.inside k refl in
+        let before : (j i : ℕ) → i < width → j * width + i < k → test j i ≡ false =
+        λ j i o h. sym (at_place j i o) ∙ f.first_at.none_before (j * width + i) h in
+        sym ((first_place_means test 0 width height _ _ (itself true) (itself false) (at 0 (k / width) (k % width))).1
         (record {
           plane_is = refl;
           row_inside = (div-lt_iff_lt-mul some).1 l;
-          column_inside = mod-lt first some;
-          fails = f.passes l;
-          none_before = λ j i h m o. passes_before j i m (subst (λ k. j * width + i < k) (div-add-mod' first width) (index_before j i (first / width) (first % width) m o));
-        }))))
-        (λ (l : height * width ≤ first).
-        rw (le-leb (height * width) first l)
-        (sym ((no_place_means test 0 width height _ _ (itself true) (itself false)).1 (λ j i h m. passes_before j i m (omega (arith, index_inside j i h m))))))
-        (below_or_not first (height * width))
+          column_inside = mod-lt k some;
+          fails = f.first_at.passes l;
+          none_before = λ j i h m o. before j i m (subst (λ x. j * width + i < x) (div-add-mod' k width) (index_before j i (k / width) (k % width) m o));
+        }))
+    all_first None f =
+        sym ((no_place_means test 0 width height _ _ (itself true) (itself false)).1
+        (λ j i h m. sym (at_place j i m) ∙ f.first_at.none_before (j * width + i) (index_inside j i h m)))
 
 -- ---- what a count of places says
 

@@ -139,7 +139,7 @@ pub record Carried (t m u : ℕ) : Type 0 where
   pub read : m * u ≤ most_sample * u
   pub written : t * (m * u) ≤ most_sample * most_sample * u
 
-carried : (t m u : ℕ) → t ≤ most_sample → m ≤ most_sample → Carried t m u
+pub carried : (t m u : ℕ) → t ≤ most_sample → m ≤ most_sample → Carried t m u
 carried t m u ht hm =
     let a = mul-le-mul hm (le_refl u) in
     record { read = a; written = omega (arith, mul-le-mul ht a) }

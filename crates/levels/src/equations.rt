@@ -31,7 +31,7 @@ pub struct LevelMatrix {
     pub reverse: Equations,
 }
 
-// KR, KG and KB, in parts of `all`.
+// KR, KG and KB, in parts of `all`. `Shares` is no ghost field, since the definition `weights` takes any KR and KB.
 #[derive(Clone, Copy)]
 struct Weights {
     kr: u64,
@@ -47,7 +47,8 @@ impl Weights {
     // KG is what KR and KB leave.
     fn of(kr: u64, kb: u64) -> Weights
         requires { kr + kb < all_parts }
-        ensures { result ≡ weights kr kb }
+        ensures value { result ≡ weights kr kb }
+        ensures shares { Shares result }
     {
         let kg = Self::ALL - kr - kb;
         Weights {
@@ -59,6 +60,8 @@ impl Weights {
     }
 }
 
+// The six equations stand apart, each as it is printed.
+//
 // (42): EY from R, G, B.
 fn equation_y(k: Weights) -> Equation
     ensures { result ≡ equation_y k }
@@ -79,18 +82,15 @@ fn equation_pb(k: Weights) -> Equation
     requires { Shares k }
     ensures { result ≡ equation_pb k }
 {
-    let kr = k.kr;
-    let kg = k.kg;
-    let rest = kr + kg;
-    let over = 2 * rest;
+    let rest = k.kr + k.kg;
     Equation {
         up0: 0,
         up1: 0,
         up2: rest,
-        down0: kr,
-        down1: kg,
+        down0: k.kr,
+        down1: k.kg,
         down2: 0,
-        over,
+        over: 2 * rest,
     }
 }
 
@@ -99,18 +99,15 @@ fn equation_pr(k: Weights) -> Equation
     requires { Shares k }
     ensures { result ≡ equation_pr k }
 {
-    let kg = k.kg;
-    let kb = k.kb;
-    let rest = kg + kb;
-    let over = 2 * rest;
+    let rest = k.kg + k.kb;
     Equation {
         up0: rest,
         up1: 0,
         up2: 0,
         down0: 0,
-        down1: kg,
-        down2: kb,
-        over,
+        down1: k.kg,
+        down2: k.kb,
+        over: 2 * rest,
     }
 }
 
@@ -119,18 +116,14 @@ fn equation_r(k: Weights) -> Equation
     requires { Shares k }
     ensures { result ≡ equation_r k }
 {
-    let all = k.all;
-    let kg = k.kg;
-    let kb = k.kb;
-    let red = 2 * (kg + kb);
     Equation {
-        up0: all,
+        up0: k.all,
         up1: 0,
-        up2: red,
+        up2: 2 * (k.kg + k.kb),
         down0: 0,
         down1: 0,
         down2: 0,
-        over: all,
+        over: k.all,
     }
 }
 
@@ -139,13 +132,9 @@ fn equation_g(k: Weights) -> Equation
     requires { Shares k }
     ensures { result ≡ equation_g k }
 {
-    let all = k.all;
-    let kr = k.kr;
-    let kg = k.kg;
-    let kb = k.kb;
-    let over = all * kg;
-    let blue = 2 * kb * (kr + kg);
-    let red = 2 * kr * (kg + kb);
+    let over = k.all * k.kg;
+    let blue = 2 * k.kb * (k.kr + k.kg);
+    let red = 2 * k.kr * (k.kg + k.kb);
     Equation {
         up0: over,
         up1: 0, // Cb and Cr are taken away
@@ -162,18 +151,14 @@ fn equation_b(k: Weights) -> Equation
     requires { Shares k }
     ensures { result ≡ equation_b k }
 {
-    let all = k.all;
-    let kr = k.kr;
-    let kg = k.kg;
-    let blue = 2 * (kr + kg);
     Equation {
-        up0: all,
-        up1: blue,
+        up0: k.all,
+        up1: 2 * (k.kr + k.kg),
         up2: 0,
         down0: 0,
         down1: 0,
         down2: 0,
-        over: all,
+        over: k.all,
     }
 }
 

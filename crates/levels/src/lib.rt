@@ -12,7 +12,7 @@ ghost use Rattle.levels.specs.Lines.{forward_lines, reverse_lines};
 
 use equations::Equations;
 use lines::Lines;
-use sample::Depths;
+use sample::{Depths, SampleDepth};
 
 // The largest sample that a level matrix reads.
 pub const MOST_SAMPLE: u16 = (1 << sample::MOST_LEVEL_DEPTH) - 1;
@@ -32,17 +32,15 @@ pub fn forward_lines(e: Equations, s: LevelSetting) -> Lines
     ensures { result ≡ forward_lines e s }
 {
     let d = s.depths;
-    let rgb_full = s.rgb_full;
-    let ycc_full = s.ycc_full;
-    let from = lines::readers_of_rgb(scale::rgb_scale(rgb_full, d.rgb));
+    let from = lines::readers_of_rgb(scale::rgb_scale(s.rgb_full, d.rgb));
     let light = lines::writer_of(
-        ycc_full,
-        scale::luma_scale(ycc_full, d.luma),
+        s.ycc_full,
+        scale::luma_scale(s.ycc_full, d.luma),
         d.luma.largest(),
     );
     let colour = lines::writer_of(
-        ycc_full,
-        scale::chroma_scale(ycc_full, d.chroma),
+        s.ycc_full,
+        scale::chroma_scale(s.ycc_full, d.chroma),
         d.chroma.largest(),
     );
     lines::lines_of(e, from, light, colour)
@@ -55,11 +53,13 @@ pub fn reverse_lines(e: Equations, s: LevelSetting) -> Lines
     ensures { result ≡ reverse_lines e s }
 {
     let d = s.depths;
-    let rgb_full = s.rgb_full;
-    let ycc_full = s.ycc_full;
-    let of_luma = scale::luma_scale(ycc_full, d.luma);
-    let of_chroma = scale::chroma_scale(ycc_full, d.chroma);
+    let of_luma = scale::luma_scale(s.ycc_full, d.luma);
+    let of_chroma = scale::chroma_scale(s.ycc_full, d.chroma);
     let from = lines::readers_of_ycc(of_luma, of_chroma);
-    let to = lines::writer_of(rgb_full, scale::rgb_scale(rgb_full, d.rgb), d.rgb.largest());
+    let to = lines::writer_of(
+        s.rgb_full,
+        scale::rgb_scale(s.rgb_full, d.rgb),
+        d.rgb.largest(),
+    );
     lines::lines_of(e, from, to, to)
 }

@@ -1,5 +1,6 @@
 // An equation, the samples that it reads and the plane that it writes, brought together in one line before any pixel is met.
-ghost use Rattle.std.specs.Prelude.{◌≡◌};
+ghost use Rattle.std.specs.Prelude.{◌≡◌, ◌+◌, ◌*◌, ◌^◌, ◌≤◌, ◌<◌};
+ghost use Rattle.levels.specs.Conversion.{most_sample, most_total};
 ghost use Rattle.levels.specs.Lines.{writer_of, readers_of_rgb, readers_of_ycc, spread, line_of, ready_line, lines_of};
 ghost use Rattle.levels.specs.Room.{ScaleFits, SpreadFits, LineFits};
 
@@ -25,7 +26,8 @@ pub struct ReadyLine {
     pub by: Divisor,
 }
 
-// The three samples of a pixel, by plane.
+// The three samples of a pixel, by plane. `AllReady` is no ghost field, since the definition `lines_of` makes them of any equations. They have
+// names and are no array: a clause sees an array as a list, and `lines_pixel` would have to say what it gives where that has not three lines.
 #[derive(Clone, Copy)]
 pub struct Lines {
     pub first: ReadyLine,
@@ -61,22 +63,20 @@ pub struct Readers {
 pub(crate) fn writer_of(full: bool, s: Scale, top: u16) -> Writer
     ensures { result ≡ writer_of full s top }
 {
-    let times = s.times;
-    let plus = s.plus;
-    let top = top as u64;
     if full {
-        return Writer {
-            times,
+        Writer {
+            times: s.times,
             plus: 0,
-            mid: plus,
-            top,
-        };
-    }
-    Writer {
-        times,
-        plus,
-        mid: 0,
-        top,
+            mid: s.plus,
+            top: top as u64,
+        }
+    } else {
+        Writer {
+            times: s.times,
+            plus: s.plus,
+            mid: 0,
+            top: top as u64,
+        }
     }
 }
 
@@ -84,13 +84,14 @@ pub(crate) fn writer_of(full: bool, s: Scale, top: u16) -> Writer
 pub(crate) fn readers_of_rgb(s: Scale) -> Readers
     ensures { result ≡ readers_of_rgb s }
 {
-    let times = s.times;
-    let plus = s.plus;
-    let each = Reader { mul: 1, plus };
+    let each = Reader {
+        mul: 1,
+        plus: s.plus,
+    };
     Readers {
         first: each,
         rest: each,
-        common: times,
+        common: s.times,
     }
 }
 
@@ -100,19 +101,15 @@ pub(crate) fn readers_of_ycc(luma: Scale, chroma: Scale) -> Readers
     requires scale_fits_2 { ScaleFits chroma }
     ensures { result ≡ readers_of_ycc luma chroma }
 {
-    let luma_times = luma.times;
-    let luma_plus = luma.plus;
-    let chroma_times = chroma.times;
-    let chroma_plus = chroma.plus;
     let first = Reader {
-        mul: chroma_times,
-        plus: luma_plus,
+        mul: chroma.times,
+        plus: luma.plus,
     };
     let rest = Reader {
-        mul: luma_times,
-        plus: chroma_plus,
+        mul: luma.times,
+        plus: chroma.plus,
     };
-    let common = chroma_times * luma_times;
+    let common = chroma.times * luma.times;
     Readers {
         first,
         rest,
@@ -120,38 +117,39 @@ pub(crate) fn readers_of_ycc(luma: Scale, chroma: Scale) -> Readers
     }
 }
 
+// A weight, with what its sample is read by and what the result is written by.
+fn carried(u: u64, mul: u64, times: u64) -> u64
+    requires u_in { u ≤ most_total }
+    requires mul_in { mul ≤ most_sample }
+    requires times_in { times ≤ most_sample }
+    ensures { result ≡ times * (mul * u) }
+{
+    times * (mul * u)
+}
+
+// Three numbers, each times its weight, and one more.
+pub(crate) fn weighted_sum(w0: u64, x: u64, w1: u64, y: u64, w2: u64, z: u64, more: u64) -> u64
+    requires { w0 * x + w1 * y + w2 * z + more < 2 ^ 64 }
+    ensures { result ≡ w0 * x + w1 * y + w2 * z + more }
+{
+    w0 * x + w1 * y + w2 * z + more
+}
+
 // An equation over the samples themselves: each weight with what its sample is read by, and with what the result is written by.
 fn spread(w: Equation, from: Readers, times: u64) -> Equation
     requires { SpreadFits w from times }
     ensures { result ≡ spread w from times }
 {
-    let first = from.first;
-    let rest = from.rest;
-    let common = from.common;
-    let m0 = first.mul;
-    let m1 = rest.mul;
-    let u0 = w.up0;
-    let u1 = w.up1;
-    let u2 = w.up2;
-    let d0 = w.down0;
-    let d1 = w.down1;
-    let d2 = w.down2;
-    let den = w.over;
-    let up0 = times * (m0 * u0);
-    let up1 = times * (m1 * u1);
-    let up2 = times * (m1 * u2);
-    let down0 = times * (m0 * d0);
-    let down1 = times * (m1 * d1);
-    let down2 = times * (m1 * d2);
-    let over = den * common;
+    let first = from.first.mul;
+    let rest = from.rest.mul;
     Equation {
-        up0,
-        up1,
-        up2,
-        down0,
-        down1,
-        down2,
-        over,
+        up0: carried(w.up0, first, times),
+        up1: carried(w.up1, rest, times),
+        up2: carried(w.up2, rest, times),
+        down0: carried(w.down0, first, times),
+        down1: carried(w.down1, rest, times),
+        down2: carried(w.down2, rest, times),
+        over: w.over * from.common,
     }
 }
 
@@ -160,30 +158,34 @@ fn line_of(w: Equation, from: Readers, to: Writer) -> Line
     requires { LineFits w from to }
     ensures { result ≡ line_of w from to }
 {
-    let first = from.first;
-    let rest = from.rest;
-    let o0 = first.plus;
-    let o1 = rest.plus;
-    let times = to.times;
-    let plus = to.plus;
-    let mid = to.mid;
-    let top = to.top;
-    let equation = spread(w, from, times);
-    let u0 = equation.up0;
-    let u1 = equation.up1;
-    let u2 = equation.up2;
-    let d0 = equation.down0;
-    let d1 = equation.down1;
-    let d2 = equation.down2;
-    let den = equation.over;
-    let up = d0 * o0 + d1 * o1 + d2 * o1 + plus * den;
-    let down = u0 * o0 + u1 * o1 + u2 * o1;
+    let equation = spread(w, from, to.times);
+    let first = from.first.plus;
+    let rest = from.rest.plus;
+    let added = to.plus * equation.over;
+    let up = weighted_sum(
+        equation.down0,
+        first,
+        equation.down1,
+        rest,
+        equation.down2,
+        rest,
+        added,
+    );
+    let down = weighted_sum(
+        equation.up0,
+        first,
+        equation.up1,
+        rest,
+        equation.up2,
+        rest,
+        0,
+    );
     Line {
         equation,
         up,
         down,
-        mid,
-        top,
+        mid: to.mid,
+        top: to.top,
     }
 }
 
@@ -193,9 +195,8 @@ fn ready_line(w: Equation, from: Readers, to: Writer) -> ReadyLine
     ensures { result ≡ ready_line w from to }
 {
     let line = line_of(w, from, to);
-    let equation = line.equation;
-    let over = equation.over;
-    let by = rounding::quotient::divisor_of(2 * over);
+    let twice = 2 * line.equation.over;
+    let by = rounding::quotient::divisor_of(twice);
     ReadyLine { line, by }
 }
 

@@ -17,7 +17,7 @@ use Rattle.sample.specs.Depth.{UpTo}
 use Rattle.runs.specs.Light.{light_by}
 use Rattle.runs.proofs.Mixing.{lit, in_reach}
 use Rattle.light.specs.Light.{light_pixel, Plane, Stands}
-use Rattle.light.specs.declared.Light.{Light}
+use Rattle.light.specs.declared.scaled.Light.{Light}
 use Rattle.light.specs.declared.scaled.Scaled.{Scaled}
 use Rattle.light.proofs.Scaling.{scaled_is}
 

@@ -1,8 +1,11 @@
 -- The numbers of a plane have room, and its start lies below what it is lifted by.
 use Prim.Native.Nat.{ℕ, ◌+◌, ◌*◌, ◌/◌, ◌≤◌, ◌<◌}
-use native.Mathlib.Nat.{mul-le-mul, mul-le-mul_left, mul-le-mul_right, lt_of_mul-lt-mul_left}
+use native.Mathlib.Nat.{mul-le-mul, mul-le-mul_left, mul-le-mul_right, lt_of_mul-lt-mul_left, div-mul-le_self}
 use native.Mathlib.Omega.{arith}
-use Rattle.runs.proofs.Dividing.{bounded}
+
+-- a number that stays below what it was tested against
+bounded : (n d k : ℕ) → k ≤ n / d → d * k ≤ n
+bounded n d k h = let most = div-mul-le_self n d in let less = mul-le-mul_left d h in omega arith
 
 pub start_below : (factor e half q start lift : ℕ) → 2 * (half * q) < factor * e → factor * start < 2 * (half * lift) → 0 < e → q * start < e * lift
 start_below factor e half q start lift h k some =
@@ -25,7 +28,3 @@ sums factor start reach half level lift spare room f-in r-in s-in low =
     let r : reach ≤ 1073741823 = omega arith in
     let s : start ≤ 1073741823 = omega arith in
     record { lifted = omega arith; at_start = mul-le-mul f s; at_end = mul-le-mul f r; below = omega arith }
-
--- a unit is sought past a number of few bits
-pub few_bits : (e reach spare : ℕ) → e ≤ 268435455 → reach < 1073741824 → spare ≤ 4294967295 → e * (reach + spare) ≤ 268435455 * 5368709118
-few_bits e reach spare h k l = let s : reach + spare ≤ 5368709118 = omega arith in mul-le-mul h s

@@ -1,18 +1,17 @@
 -- Planes whose numbers were found stand together for their lines.
-use mathlib.Core.Path.{◌≡◌, refl, sym, subst, ◌∙◌}
+use mathlib.Core.Path.{◌≡◌, sym, ap, subst, ◌∙◌}
 use Prim.Native.Nat.{◌*◌, ◌≤◌}
 use native.Mathlib.Nat.{one-mul}
 use native.Mathlib.Omega.{arith}
 use Rattle.levels.specs.declared.lines.Lines.{Lines}
 use Rattle.runs.specs.Found.{RunsFound, Mixes}
-use Rattle.runs.specs.Light.{mix_of, Weighs}
+use Rattle.runs.specs.Light.{light_by, blue_by, red_by, mix_of, Weighs}
 use Rattle.runs.specs.declared.Runs.{Runs}
 use Rattle.runs.specs.declared.mix.Mix.{Mix}
 use Rattle.runs.proofs.Mixing.{bias_in, weighs}
-use Rattle.light.specs.Light.{Stands}
-use Rattle.light.specs.Scaled.{Fits, Scales}
-use Rattle.light.specs.declared.Light.{Light}
-use Rattle.light.specs.declared.scaled.Scaled.{Scaled}
+use Rattle.light.specs.Light.{Plane, Stands}
+use Rattle.light.specs.Scaled.{Scales}
+use Rattle.light.specs.declared.scaled.Light.{Light}
 
 -- weights that are taken once
 module _ {lines : Lines} {r : Runs} (f : RunsFound lines r) where
@@ -32,22 +31,31 @@ module _ {lines : Lines} {r : Runs} (f : RunsFound lines r) where
     bias = one-mul r.bias i;
   }
 
-  module _ {luma blue red : Scaled}
-      (first : Scales r.luma lines.first.line.mid lines.first.line.top r.bias luma × Fits luma r.bias)
-      (second : Scales r.blue lines.second.line.mid lines.second.line.top (2 * r.bias) blue × Fits blue (2 * r.bias))
-      (third : Scales r.red lines.third.line.mid lines.third.line.top (2 * r.bias) red × Fits red (2 * r.bias)) where
-    abbrev light_with : Mix → Light
-    light_with m = record { mix = m; luma = luma; blue = blue; red = red }
+  -- their sum and the largest light are what they are named for
+  pub weighs_once : {m : Mix} → m ≡ mix_of r 1 → Weighs m
+  weighs_once e = subst Weighs (sym e) (weighs mixes)
 
-    pub stand : (m : Mix) → m ≡ mix_of r 1 → Stands lines (light_with m) × (m.most ≡ r.most)
-    stand m e =
-        let w = subst (λ k. Stands lines (light_with k) × (k.most ≡ r.most)) in
-        w (sym (e ∙ once)) (
-          record {
-            fits = record { weighs = subst Weighs once (weighs mixes); luma = first.1; blue = second.1; red = third.1 };
-            luma = record { run = r.luma; follows = f.luma.follows; scales = first.0 };
-            blue = record { run = r.blue; follows = f.blue.follows; scales = second.0 };
-            red = record { run = r.red; follows = f.red.follows; scales = third.0 };
-          },
-          refl,
-        )
+  pub bias_once : {m : Mix} → m ≡ mix_of r 1 → m.bias ≡ r.bias
+  bias_once e = ap (λ m. m.bias) (e ∙ once)
+
+  pub stand : (k : Light) → k.mix ≡ mix_of r 1
+      → Scales r.luma lines.first.line.mid lines.first.line.top r.bias k.luma
+      → Scales r.blue lines.second.line.mid lines.second.line.top (2 * r.bias) k.blue
+      → Scales r.red lines.third.line.mid lines.third.line.top (2 * r.bias) k.red
+      → Stands lines k × (k.mix.most ≡ r.most)
+  stand k e first second third =
+      let back = sym (e ∙ once) in (
+        record {
+          fits = record { weighs = k.weighs; luma = k.luma_fits; blue = k.blue_fits; red = k.red_fits };
+          luma = subst
+              (λ m. Plane lines.first.line m.most (light_by m.kr m.kg m.kb) m.bias k.luma) back
+              (record { run = r.luma; follows = f.luma.follows; scales = first });
+          blue = subst
+              (λ m. Plane lines.second.line m.most (blue_by m.kr m.kg m.kb m.bias) (2 * m.bias) k.blue) back
+              (record { run = r.blue; follows = f.blue.follows; scales = second });
+          red = subst
+              (λ m. Plane lines.third.line m.most (red_by m.kr m.kg m.kb m.bias) (2 * m.bias) k.red) back
+              (record { run = r.red; follows = f.red.follows; scales = third });
+        },
+        ap (λ m. m.most) (e ∙ once),
+      )

@@ -1,15 +1,12 @@
 -- The samples of a pixel from its light, and when numbers stand for the lines of a luma matrix.
-use Rattle.std.specs.Prelude.{◌≡◌, ℕ, ◌*◌}
+use Rattle.std.specs.Prelude.{ℕ, ◌*◌}
 use Rattle.sample.specs.declared.Pixel.{Pixel}
 use Rattle.levels.specs.declared.lines.Line.{Line}
 use Rattle.levels.specs.declared.lines.Lines.{Lines}
 use Rattle.runs.specs.Light.{light_by, blue_by, red_by, Weighs, Follows}
 use Rattle.runs.specs.declared.Run.{Run}
-use Rattle.runs.specs.declared.Runs.{Runs}
 use Rattle.light.specs.Scaled.{scaled_sample, Fits, Scales}
-use Rattle.light.specs.declared.Light.{Light}
-use Rattle.light.specs.declared.prepare.Answer.{Answer}
-use Rattle.light.specs.declared.prepare.Answer.TheVariants.{Made, Nothing}
+use Rattle.light.specs.declared.scaled.Light.{Light}
 use Rattle.light.specs.declared.scaled.Scaled.{Scaled}
 
 -- what the three planes' numbers make of a pixel
@@ -40,8 +37,3 @@ pub record Stands (l : Lines) (k : Light) : Type 0 where
   pub luma : Plane l.first.line k.mix.most (light_by k.mix.kr k.mix.kg k.mix.kb) k.mix.bias k.luma
   pub blue : Plane l.second.line k.mix.most (blue_by k.mix.kr k.mix.kg k.mix.kb k.mix.bias) (2 * k.mix.bias) k.blue
   pub red : Plane l.third.line k.mix.most (red_by k.mix.kr k.mix.kg k.mix.kb k.mix.bias) (2 * k.mix.bias) k.red
-
--- what is made of runs stands for their lines, up to the same largest sample
-abbrev pub Answered : Lines → Runs → Answer → Type 0
-Answered l r (Made k) = Stands l k × (k.mix.most ≡ r.most)
-Answered l r Nothing = Unit

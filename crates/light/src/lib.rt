@@ -8,37 +8,20 @@ pub mod scaled;
 
 ghost use Rattle.std.specs.Prelude.{◌≡◌};
 ghost use Rattle.sample.specs.Depth.{UpTo};
-ghost use Rattle.light.specs.Light.{light_pixel, LightFits};
+ghost use Rattle.light.specs.Light.{light_pixel};
 
 use runs::mix;
-use runs::mix::Mix;
 use sample::Pixel;
-use scaled::Scaled;
-
-// The weights, and the numbers of the three planes.
-#[derive(Clone, Copy)]
-pub struct Light {
-    pub mix: Mix,
-    pub luma: Scaled,
-    pub blue: Scaled,
-    pub red: Scaled,
-}
+use scaled::Light;
 
 // The three samples.
 pub fn pixel_of(by: Light, p: Pixel) -> Pixel
-    requires light_fits { LightFits by }
     requires up_to { UpTo by.mix.most p }
     ensures { result ≡ light_pixel by p }
 {
-    let weights = by.mix;
-    let luma = by.luma;
-    let blue = by.blue;
-    let red = by.red;
-    let r = p.p0;
-    let b = p.p2;
-    let light = mix::light_of(weights, p);
-    let p0 = scaled::sample(luma, light);
-    let p1 = scaled::sample(blue, mix::away(weights, b, light));
-    let p2 = scaled::sample(red, mix::away(weights, r, light));
+    let light = mix::light_of(by.mix, p);
+    let p0 = scaled::sample(by.luma, light);
+    let p1 = scaled::sample(by.blue, mix::away(by.mix, p.p2, light));
+    let p2 = scaled::sample(by.red, mix::away(by.mix, p.p0, light));
     Pixel { p0, p1, p2 }
 }

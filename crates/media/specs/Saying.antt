@@ -1,27 +1,34 @@
 -- What colour records say, one by one and together.
-use Rattle.std.specs.Prelude.{cond, List, ℕ, ◌+◌, ◌*◌, ◌/◌, ◌%◌, eqb, ltb, length}
+use Rattle.std.specs.Prelude.{Bool, false, cond, List, ℕ, ◌+◌, ◌*◌, ◌/◌, ◌%◌, eqb, ltb, length, Option, Some, None, Result, Ok, Err}
 use Rattle.sample.specs.Flag.{one_if}
 use Rattle.boxes.specs.Boxes.{word_at}
 use Rattle.nclx.specs.Record.{label_read}
 use Rattle.nclx.specs.declared.ColourLabel.{ColourLabel}
-use Rattle.nclx.specs.declared.LabelRead.{LabelRead}
-use Rattle.nclx.specs.declared.LabelRead.TheVariants as read
 use Rattle.media.specs.declared.records.Codes.{Codes}
 use Rattle.media.specs.declared.records.Said.{Said}
 use Rattle.media.specs.declared.records.Said.TheVariants as said
+use Rattle.media.specs.declared.finding.Trouble.{Trouble}
 use Rattle.media.specs.declared.file.FileSaid.{FileSaid}
+use Rattle.media.specs.declared.file.Tracks.{Tracks}
+use Rattle.media.specs.declared.file.Tracks.TheVariants.{Without, One, Several}
+use Rattle.refusal.specs.declared.Refusal.{Refusal}
 
--- the first four letters as one number, or 0 where there are none
-abbrev pub letters_of : List ℕ → ℕ
-letters_of s = cond (ltb (length s) 4) 0 (word_at s 0)
+-- the first four letters as one number, where there are so many
+abbrev pub letters_of : List ℕ → Option ℕ
+letters_of s = cond (ltb (length s) 4) None (Some (word_at s 0))
+
+-- whether these are the letters
+abbrev pub lettered : ℕ → Option ℕ → Bool
+lettered kind None = false
+lettered kind (Some letters) = eqb letters kind
 
 -- an 'nclc' record: three codes of 16 bits after the letters
 abbrev pub older_of : List ℕ → Codes
 older_of s = record { primaries = word_at s 4 / 65536; transfer = word_at s 4 % 65536; matrix = word_at s 6 % 65536 }
 
-abbrev pub read_said : LabelRead → Said
-read_said (read.Label l) = said.Label l
-read_said (read.Refused x) = said.Refused x.number
+abbrev pub read_said : Result ColourLabel Refusal → Said
+read_said (Ok l) = said.Label l
+read_said (Err x) = said.Refused x.number
 
 unfoldable pub nclx_said : List ℕ → Said
 nclx_said s = read_said (label_read s)
@@ -32,8 +39,8 @@ older_said s = cond (eqb (length s) 10) (said.Older (older_of s)) (nclx_said s)
 -- prof and rICC, nclc, and all others as the colour record has to be
 unfoldable pub record_said : List ℕ → Said
 record_said s =
-    cond (eqb (letters_of s) 1886547814) said.Profile
-    (cond (eqb (letters_of s) 1917403971) said.Profile (cond (eqb (letters_of s) 1852009571) (older_said s) (nclx_said s)))
+    cond (lettered 1886547814 (letters_of s)) said.Profile
+    (cond (lettered 1917403971 (letters_of s)) said.Profile (cond (lettered 1852009571 (letters_of s)) (older_said s) (nclx_said s)))
 
 -- ---- one number for what is said: what counts more is larger by this
 abbrev pub rank : ℕ
@@ -53,32 +60,60 @@ key_of (said.Older c) = 3 * rank + older_key c
 key_of (said.Label l) = 4 * rank + label_key l
 key_of (said.Refused n) = 4 * rank + 33554432 + n
 key_of said.Differ = 5 * rank
-key_of (said.Bad t) = 6 * rank
 
 abbrev pub rank_of : ℕ → ℕ
 rank_of key = key / rank
 
--- two records of one picture: what counts more
-unfoldable pub beside : Said → Said → Said
-beside a b =
+-- what counts more, and of two that count the same none
+unfoldable pub merged : Said → Said → Said
+merged a b =
     cond (eqb (key_of a) (key_of b)) a
     (cond (ltb (rank_of (key_of a)) (rank_of (key_of b))) b (cond (ltb (rank_of (key_of b)) (rank_of (key_of a))) a said.Differ))
 
--- two pictures of one file: what is no picture says nothing, trouble with one is trouble with both, and otherwise they have to say the same
-unfoldable pub across : Said → Said → Said
-across a b =
+-- what is no picture says nothing, and otherwise they have to say the same
+unfoldable pub between : Said → Said → Said
+between a b =
     cond (eqb (key_of a) (key_of b)) a
-    (cond (eqb (rank_of (key_of a)) 0) b
-    (cond (eqb (rank_of (key_of b)) 0) a
-    (cond (ltb 5 (rank_of (key_of b))) b (cond (ltb 5 (rank_of (key_of a))) a said.Differ))))
+    (cond (eqb (rank_of (key_of a)) 0) b (cond (eqb (rank_of (key_of b)) 0) a said.Differ))
+
+-- trouble counts most, and the first of two troubles
+abbrev pub troubled : (Said → Said → Said) → Result Said Trouble → Result Said Trouble → Result Said Trouble
+troubled both (Err t) b = Err t
+troubled both (Ok a) (Err t) = Err t
+troubled both (Ok a) (Ok b) = Ok (both a b)
+
+-- two records of one picture
+abbrev pub beside : Result Said Trouble → Result Said Trouble → Result Said Trouble
+beside = troubled merged
+
+-- two pictures of one file
+abbrev pub across : Result Said Trouble → Result Said Trouble → Result Said Trouble
+across = troubled between
 
 -- ---- a file: its tracks, its image, or both
 
-abbrev pub of_movie : Said → ℕ → FileSaid
-of_movie m tracks = record { said = m; image = said.Other; tracks = tracks }
+-- one picture more
+abbrev pub one_more : Tracks → Tracks
+one_more Without = One
+one_more One = Several
+one_more Several = Several
 
-abbrev pub of_image : Said → FileSaid
-of_image image = record { said = image; image = image; tracks = 0 }
+-- a track that is no picture does not count
+abbrev pub counted : Tracks → Result Said Trouble → Tracks
+counted tracks (Err t) = one_more tracks
+counted tracks (Ok said.Other) = tracks
+counted tracks (Ok said.Nothing) = one_more tracks
+counted tracks (Ok said.Profile) = one_more tracks
+counted tracks (Ok (said.Older c)) = one_more tracks
+counted tracks (Ok (said.Label l)) = one_more tracks
+counted tracks (Ok (said.Refused n)) = one_more tracks
+counted tracks (Ok said.Differ) = one_more tracks
 
-abbrev pub of_both : Said → Said → ℕ → FileSaid
+abbrev pub of_movie : Result Said Trouble → Tracks → FileSaid
+of_movie m tracks = record { said = m; image = Ok said.Other; tracks = tracks }
+
+abbrev pub of_image : Result Said Trouble → FileSaid
+of_image image = record { said = image; image = image; tracks = Without }
+
+abbrev pub of_both : Result Said Trouble → Result Said Trouble → Tracks → FileSaid
 of_both image m tracks = record { said = across image m; image = image; tracks = tracks }

@@ -1,11 +1,11 @@
 // What a whole file says of its colour: its tracks, one after the other, and the image of an AVIF file.
 ghost use Rattle.std.specs.Prelude.{◌≡◌, ◌≤◌};
-ghost use Rattle.media.specs.Kinds.{opens_movie, branded, file_kind, is_picture};
+ghost use Rattle.media.specs.Kinds.{branded, file_kind, is_picture};
 ghost use Rattle.media.specs.Inside.{Here};
 ghost use Rattle.media.specs.SaidIn.{SaidIn, FileIn};
-ghost use Rattle.media.specs.Saying.{of_movie, of_image, of_both};
+ghost use Rattle.media.specs.Saying.{counted, of_movie, of_image, of_both};
 
-use crate::finding::{Found, META, STSD, Trouble};
+use crate::finding::{META, STSD, Span, Trouble};
 use crate::records::Said;
 use crate::{finding, records};
 use std::os::unix::fs::FileExt;
@@ -19,219 +19,179 @@ pub enum FileKind {
     Stranger,
 }
 
-// What all pictures of a file come to, what its image alone says, and how many of its tracks are pictures: 2 stands for several.
+// How many tracks are pictures.
+#[derive(Clone, Copy)]
+pub enum Tracks {
+    Without,
+    One,
+    Several,
+}
+
+// What all pictures of a file come to, what its image alone says, and how many of its tracks are pictures.
 #[derive(Clone, Copy)]
 pub struct FileSaid {
-    pub said: Said,
-    pub image: Said,
-    pub tracks: u8,
+    pub said: Result<Said, Trouble>,
+    pub image: Result<Said, Trouble>,
+    pub tracks: Tracks,
 }
 
 // What the tracks come to, and how many of them are pictures, likewise.
 #[derive(Clone, Copy)]
 struct MovieSaid {
-    said: Said,
-    tracks: u8,
+    said: Result<Said, Trouble>,
+    tracks: Tracks,
 }
 
-// Four letters as one number.
-pub const TRAK: u32 = 1953653099;
+// Four letters as one number, a byte for each.
+pub const TRAK: u32 = 0x7472_616b;
 
-const MOOV: u32 = 1836019574;
+const MOOV: u32 = 0x6d6f_6f76;
 
-const MDIA: u32 = 1835297121;
+const MDIA: u32 = 0x6d64_6961;
 
-const HDLR: u32 = 1751411826;
+const HDLR: u32 = 0x6864_6c72;
 
-const MINF: u32 = 1835626086;
+const MINF: u32 = 0x6d69_6e66;
 
-const STBL: u32 = 1937007212;
+const STBL: u32 = 0x7374_626c;
 
-const IPRP: u32 = 1768977008;
+const IPRP: u32 = 0x6970_7270;
 
-const IPCO: u32 = 1768973167;
+const IPCO: u32 = 0x6970_636f;
 
-// The same of first boxes, brands and the media of tracks, in 64 bits: `finding::NONE` stands for none, and has 33.
-const FTYP: u64 = 1718909296;
+// The same of first boxes, brands and the media of tracks.
+const FTYP: u32 = 0x6674_7970;
 
-const FIRST_MOOV: u64 = MOOV as u64;
+const MDAT: u32 = 0x6d64_6174;
 
-const MDAT: u64 = 1835295092;
+const WIDE: u32 = 0x7769_6465;
 
-const WIDE: u64 = 2003395685;
+const FREE: u32 = 0x6672_6565;
 
-const FREE: u64 = 1718773093;
+const SKIP: u32 = 0x736b_6970;
 
-const SKIP: u64 = 1936419184;
+const AVIF: u32 = 0x6176_6966;
 
-const AVIF: u64 = 1635150182;
+const MIF1: u32 = 0x6d69_6631;
 
-const MIF1: u64 = 1835623985;
+const AVIS: u32 = 0x6176_6973;
 
-const AVIS: u64 = 1635150195;
+const MSF1: u32 = 0x6d73_6631;
 
-const MSF1: u64 = 1836279345;
+const VIDE: u32 = 0x7669_6465;
 
-const VIDE: u64 = 1986618469;
-
-const PICT: u64 = 1885954932;
+const PICT: u32 = 0x7069_6374;
 
 // How many bytes a track's description of its pictures has in front of the boxes that it holds.
 const ENTRY_BYTES: u8 = 78;
 
-// Whether a file without a first box of its kind may begin so, as QuickTime files do.
-#[tactic(auto, unfolding(crate::specs::Kinds::opens_movie))]
-fn opens_movie(first: u64) -> bool
-    ensures { result ≡ opens_movie first }
-{
-    if first == FIRST_MOOV {
-        return true;
-    }
-    if first == MDAT {
-        return true;
-    }
-    if first == WIDE {
-        return true;
-    }
-    if first == FREE {
-        return true;
-    }
-    first == SKIP
-}
-
 // How a file of this brand is read.
 #[tactic(auto, unfolding(crate::specs::Kinds::branded))]
-fn branded(brand: u64) -> FileKind
+fn branded(brand: Option<u32>) -> FileKind
     ensures { result ≡ branded brand }
 {
-    if brand == AVIF {
-        return FileKind::Image;
+    match brand {
+        Some(AVIF | MIF1) => FileKind::Image,
+        Some(AVIS | MSF1) => FileKind::Sequence,
+        _ => FileKind::Movie,
     }
-    if brand == MIF1 {
-        return FileKind::Image;
-    }
-    if brand == AVIS {
-        return FileKind::Sequence;
-    }
-    if brand == MSF1 {
-        return FileKind::Sequence;
-    }
-    FileKind::Movie
 }
 
-// How a file is read, by the kind of its first box and the brand in it.
-#[tactic(auto, unfolding(crate::specs::Kinds::file_kind))]
-fn file_kind(first: u64, brand: u64) -> FileKind
+// How a file is read, by the kind of its first box and the brand in it. One without a first box of its kind begins as QuickTime files may.
+#[tactic(auto, unfolding(crate::specs::Kinds::file_kind, crate::specs::Kinds::opens_movie))]
+fn file_kind(first: Option<u32>, brand: Option<u32>) -> FileKind
     ensures { result ≡ file_kind first brand }
 {
-    if first == FTYP {
-        return branded(brand);
+    match first {
+        Some(FTYP) => branded(brand),
+        Some(MOOV | MDAT | WIDE | FREE | SKIP) => FileKind::Movie,
+        _ => FileKind::Stranger,
     }
-    if opens_movie(first) {
-        return FileKind::Movie;
-    }
-    FileKind::Stranger
 }
 
 // Whether a track of this medium is a picture.
 #[tactic(auto, unfolding(crate::specs::Kinds::is_picture))]
-fn is_picture(handler: u64) -> bool
+fn is_picture(handler: Option<u32>) -> bool
     ensures { result ≡ is_picture handler }
 {
-    if handler == VIDE {
-        return true;
-    }
-    handler == PICT
+    matches!(handler, Some(VIDE | PICT))
 }
 
 // What a track's descriptions of its pictures say.
-fn entries_said(file: &impl FileExt, from: u64, end: u64) -> Said
+fn entries_said(file: &impl FileExt, from: u64, end: u64) -> Result<Said, Trouble>
     ensures { SaidIn from end result }
 {
-    let mut said = Said::Other;
+    let mut said = Ok(Said::Other);
     let mut at = from;
-    while at < end {
-        match finding::find(file, at, end, boxes::ANY, ENTRY_BYTES) {
-            Found::In(s) => {
-                said = records::across(said, records::records_said(file, s.from, s.end));
-                at = s.end;
-            }
-            Found::Nothing => return said,
-            Found::Bad(t) => return Said::Bad(t),
-        }
+    // A while loop: the walk goes on from where the description ends.
+    while let Some(s) = finding::find(file, at, end, None, ENTRY_BYTES)? {
+        said = records::across(said, records::records_said(file, s.from, s.end));
+        at = s.end;
     }
     said
 }
 
-fn descriptions_said(file: &impl FileExt, from: u64, end: u64) -> Said
+fn descriptions_said(file: &impl FileExt, from: u64, end: u64) -> Result<Said, Trouble>
     requires { from ≤ end }
     ensures { SaidIn from end result }
 {
-    match finding::descend(file, from, end, &[MINF, STBL, STSD]) {
-        Found::In(s) => records::beside(Said::Nothing, entries_said(file, s.from, s.end)),
-        Found::Nothing => Said::Nothing,
-        Found::Bad(t) => Said::Bad(t),
+    match finding::descend(file, from, end, &[MINF, STBL, STSD])? {
+        Some(s) => records::beside(Ok(Said::Nothing), entries_said(file, s.from, s.end)),
+        None => Ok(Said::Nothing),
     }
 }
 
 // What a track says, by its media.
-fn media_said(file: &impl FileExt, from: u64, end: u64) -> Said
+fn media_said(file: &impl FileExt, from: u64, end: u64) -> Result<Said, Trouble>
     requires { from ≤ end }
     ensures { SaidIn from end result }
 {
-    match finding::find(file, from, end, HDLR, 8) {
-        Found::In(s) => {
-            if is_picture(finding::number_at(file, s.from, s.end)) {
-                return descriptions_said(file, from, end);
-            }
-            Said::Other
+    match finding::find(file, from, end, Some(HDLR), 8)? {
+        Some(s) if is_picture(finding::number_at(file, s.from, s.end)) => {
+            descriptions_said(file, from, end)
         }
-        Found::Nothing => Said::Other,
-        Found::Bad(t) => Said::Bad(t),
+        _ => Ok(Said::Other),
     }
 }
 
-pub fn track_said(file: &impl FileExt, from: u64, end: u64) -> Said
+pub fn track_said(file: &impl FileExt, from: u64, end: u64) -> Result<Said, Trouble>
     ensures { SaidIn from end result }
 {
-    match finding::find(file, from, end, MDIA, 0) {
-        Found::In(s) => media_said(file, s.from, s.end),
-        Found::Nothing => Said::Other,
-        Found::Bad(t) => Said::Bad(t),
+    match finding::find(file, from, end, Some(MDIA), 0)? {
+        Some(s) => media_said(file, s.from, s.end),
+        None => Ok(Said::Other),
     }
 }
 
-// One more where a track is a picture; 2 stands for several.
-fn counted(tracks: u8, said: Said) -> u8
-    requires { tracks ≤ 2 }
-    ensures { result ≤ 2 }
+// One more where a track is a picture.
+fn counted(tracks: Tracks, said: Result<Said, Trouble>) -> Tracks
+    ensures { result ≡ counted tracks said }
 {
-    let Said::Other = said else {
-        if tracks == 0 {
-            return 1;
-        }
-        return 2;
-    };
-    tracks
+    match (tracks, said) {
+        (_, Ok(Said::Other)) => tracks,
+        (Tracks::Without, _) => Tracks::One,
+        _ => Tracks::Several,
+    }
 }
 
 fn tracks_said(file: &impl FileExt, from: u64, end: u64) -> MovieSaid
     ensures { SaidIn from end result.said }
 {
-    let mut said = Said::Other;
-    let mut tracks: u8 = 0;
+    let mut said = Ok(Said::Other);
+    let mut tracks = Tracks::Without;
     let mut at = from;
+    // A while loop: the walk goes on from where the track ends.
     while at < end {
-        match finding::find(file, at, end, TRAK, 0) {
-            Found::In(s) => {
+        match finding::find(file, at, end, Some(TRAK), 0) {
+            Ok(Some(s)) => {
                 let one = track_said(file, s.from, s.end);
                 said = records::across(said, one);
                 tracks = counted(tracks, one);
                 at = s.end;
             }
-            Found::Nothing => return MovieSaid { said, tracks },
-            Found::Bad(t) => return MovieSaid {
-                said: Said::Bad(t),
+            Ok(None) => return MovieSaid { said, tracks },
+            Err(t) => return MovieSaid {
+                said: Err(t),
                 tracks,
             },
         }
@@ -240,19 +200,18 @@ fn tracks_said(file: &impl FileExt, from: u64, end: u64) -> MovieSaid
 }
 
 // The part of a file that has its tracks.
-pub fn movie(file: &impl FileExt, size: u64) -> Found
+pub fn movie(file: &impl FileExt, size: u64) -> Result<Option<Span>, Trouble>
     ensures { Here 0 size result }
 {
     finding::descend(file, 0, size, &[MOOV])
 }
 
-fn image_said(file: &impl FileExt, size: u64) -> Said
+fn image_said(file: &impl FileExt, size: u64) -> Result<Said, Trouble>
     ensures { SaidIn 0 size result }
 {
-    match finding::descend(file, 0, size, &[META, IPRP, IPCO]) {
-        Found::In(s) => records::records_said(file, s.from, s.end),
-        Found::Nothing => Said::Nothing,
-        Found::Bad(t) => Said::Bad(t),
+    match finding::descend(file, 0, size, &[META, IPRP, IPCO])? {
+        Some(s) => records::records_said(file, s.from, s.end),
+        None => Ok(Said::Nothing),
     }
 }
 
@@ -261,14 +220,14 @@ fn movie_said(file: &impl FileExt, size: u64) -> MovieSaid
     ensures { SaidIn 0 size result.said }
 {
     match movie(file, size) {
-        Found::In(s) => tracks_said(file, s.from, s.end),
-        Found::Nothing => MovieSaid {
+        Ok(Some(s)) => tracks_said(file, s.from, s.end),
+        Ok(None) => MovieSaid {
             said: image_said(file, size),
-            tracks: 0,
+            tracks: Tracks::Without,
         },
-        Found::Bad(t) => MovieSaid {
-            said: Said::Bad(t),
-            tracks: 0,
+        Err(t) => MovieSaid {
+            said: Err(t),
+            tracks: Tracks::Without,
         },
     }
 }
@@ -276,30 +235,28 @@ fn movie_said(file: &impl FileExt, size: u64) -> MovieSaid
 fn of_movie(m: MovieSaid) -> FileSaid
     ensures { result ≡ of_movie m.said m.tracks }
 {
-    let said = m.said;
     FileSaid {
-        said,
-        image: Said::Other,
+        said: m.said,
+        image: Ok(Said::Other),
         tracks: m.tracks,
     }
 }
 
-fn of_image(image: Said) -> FileSaid
+fn of_image(image: Result<Said, Trouble>) -> FileSaid
     ensures { result ≡ of_image image }
 {
     FileSaid {
         said: image,
         image,
-        tracks: 0,
+        tracks: Tracks::Without,
     }
 }
 
-fn of_both(image: Said, m: MovieSaid) -> FileSaid
+fn of_both(image: Result<Said, Trouble>, m: MovieSaid) -> FileSaid
     ensures { result ≡ of_both image m.said m.tracks }
 {
-    let said = m.said;
     FileSaid {
-        said: records::across(image, said),
+        said: records::across(image, m.said),
         image,
         tracks: m.tracks,
     }
@@ -310,19 +267,15 @@ pub fn file_said(file: &impl FileExt, size: u64) -> FileSaid
     ensures { FileIn size result }
 {
     let mut one = [0u8; 1];
-    let error = finding::read_at(file, 0, &mut one).error;
-    if error != 0 {
-        return of_image(Said::Bad(Trouble::Unread(error)));
+    if let Err(e) = finding::read_at(file, 0, &mut one) {
+        return of_image(Err(Trouble::Unread(e.raw_os_error())));
     }
     let first = finding::number_at(file, 4, size);
     let brand = finding::number_at(file, 8, size);
     match file_kind(first, brand) {
         FileKind::Movie => of_movie(movie_said(file, size)),
         FileKind::Image => of_image(image_said(file, size)),
-        FileKind::Sequence => {
-            let image = image_said(file, size);
-            of_both(image, movie_said(file, size))
-        }
-        FileKind::Stranger => of_image(Said::Bad(Trouble::Stranger)),
+        FileKind::Sequence => of_both(image_said(file, size), movie_said(file, size)),
+        FileKind::Stranger => of_image(Err(Trouble::Stranger)),
     }
 }

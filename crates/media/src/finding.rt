@@ -1,8 +1,9 @@
 // Boxes found in an open file. A few thousand bytes are read at a time, from where the next box starts.
-ghost use Rattle.std.specs.Prelude.{◌≡◌, ◌≤◌, ◌+◌, ◌-◌, length, IfSome};
-ghost use Rattle.std.specs.IoError.{raw_os_error};
+ghost use Rattle.std.specs.Prelude.{◌≡◌, ◌≢◌, ◌≤◌, ◌+◌, ◌-◌, IfOk, IfErr, IfSome};
+ghost use Rattle.boxes.specs.declared.Walked.{Walked};
+ghost use Rattle.media.specs.declared.finding.Trouble.{Trouble};
 ghost use Rattle.media.specs.Counts.{IsPrefixLen};
-ghost use Rattle.media.specs.Inside.{Lying, Here, FoundIn};
+ghost use Rattle.media.specs.Inside.{Lying, TroubleIn, Here, FoundIn};
 
 use boxes::{Header, Walked};
 use std::io;
@@ -18,9 +19,10 @@ pub struct Span {
 // Why a file was not understood. Positions are counted from its start.
 #[derive(Clone, Copy)]
 pub enum Trouble {
-    // nothing could be read, for this reason in the system's numbers;
-    // 0 where the file ended before it should have
-    Unread(i32),
+    // nothing could be read, for this reason in the system's numbers, where it has one
+    Unread(Option<i32>),
+    // the file ended before it should have
+    Ended,
     // it begins as no such file does
     Stranger,
     // a box claims more than the bytes that are left
@@ -31,96 +33,65 @@ pub enum Trouble {
     Cut { at: u64, left: u64 },
 }
 
-#[derive(Clone, Copy)]
-pub enum Found {
-    // what the box holds
-    In(Span),
-    Nothing,
-    Bad(Trouble),
-}
+// Four letters as one number, a byte for each (the value of a constant can't be a call of from_be_bytes): the kinds of box that have something in front of the boxes that they hold.
+pub const STSD: u32 = 0x7374_7364;
 
-// What number_at answers where there is none.
-pub const NONE: u64 = 4294967296;
-
-// Four letters as one number: the kinds of box that have something in front of the boxes that they hold.
-pub const STSD: u32 = 1937011556;
-
-pub const META: u32 = 1835365473;
+pub const META: u32 = 0x6d65_7461;
 
 // The largest offset that the system takes.
-const FURTHEST: u64 = 9223372036854775807;
+const FURTHEST: u64 = i64::MAX as u64;
 
 // How many bytes are looked at in one step.
 const WINDOW: usize = 4096;
 
-// What stands for a reason that has no number in the system.
-const OTHER: i32 = -1;
-
-// How many bytes were read, and why not any, in the system's numbers, or 0 where no call failed.
-#[derive(Clone, Copy)]
-pub struct Got {
-    pub count: usize,
-    pub error: i32,
-}
-
-// What a walk came to, and why nothing could be read for it, likewise.
-#[derive(Clone, Copy)]
-struct Seen {
-    walked: Walked,
-    error: i32,
-}
-
-// The reason of a call that failed, in the system's numbers.
-pub fn reason_of(e: io::Error) -> i32
-    ensures { IfSome (raw_os_error e) (λ n. result ≡ n) }
-{
-    e.raw_os_error().unwrap_or(OTHER)
-}
-
 // How many bytes were read, from a position on.
-pub fn read_at(file: &impl FileExt, at: u64, buffer: &mut [u8]) -> Got
-    ensures { IsPrefixLen result.count buffer.new }
+pub fn read_at(file: &impl FileExt, at: u64, buffer: &mut [u8]) -> io::Result<usize>
+    ensures { IfOk result (λ n. IsPrefixLen n buffer.new) }
 {
     if FURTHEST < at {
-        return Got { count: 0, error: 0 };
+        return Ok(0);
     }
-    match file.read_at(buffer, at) {
-        Ok(count) => Got { count, error: 0 },
-        Err(e) => Got {
-            count: 0,
-            error: reason_of(e),
-        },
-    }
+    file.read_at(buffer, at)
 }
 
 // Four bytes at a position as one number, if they lie before `end`.
-pub fn number_at(file: &impl FileExt, at: u64, end: u64) -> u64
-    ensures { result ≤ 4294967296 }
+pub fn number_at(file: &impl FileExt, at: u64, end: u64) -> Option<u32>
+    ensures { IfSome result (λ number. at + 4 ≤ end) }
 {
-    if end < 4 {
-        return NONE;
-    }
-    if end - 4 < at {
-        return NONE;
+    if end < 4 || end - 4 < at {
+        return None;
     }
     let mut four = [0u8; 4];
-    let n = read_at(file, at, &mut four).count;
-    if n < 4 {
-        return NONE;
+    let n = read_at(file, at, &mut four).ok()?;
+    if n < four.len() {
+        return None;
     }
-    boxes::word_at(&four, 0) as u64
+    Some(u32::from_be_bytes(four))
+}
+
+// What a walk over the bytes that were read comes to; `unread` where they are not so many as the next header.
+fn walked(part: &[u8], room: u64, kind: Option<u32>, unread: Trouble) -> Result<Walked, Trouble>
+    ensures inside { IfOk result (Lying room) }
+    ensures onward { IfOk result (λ w. w ≢ Walked.Further 0) }
+    ensures unread { IfErr result (λ t. t ≡ unread) }
+{
+    match boxes::walk(part, room, kind) {
+        Walked::Further(0) => Err(unread),
+        seen => Ok(seen),
+    }
 }
 
 // What a walk over the bytes from a position comes to.
-fn look(file: &impl FileExt, from: u64, room: u64, kind: u32) -> Seen
-    ensures { Lying room result.walked }
+fn look(file: &impl FileExt, from: u64, end: u64, kind: Option<u32>) -> Result<Walked, Trouble>
+    requires { from ≤ end }
+    ensures inside { IfOk result (Lying (end - from)) }
+    ensures onward { IfOk result (λ w. w ≢ Walked.Further 0) }
+    ensures trouble { IfErr result (TroubleIn from end) }
 {
     let mut window = [0u8; WINDOW];
-    let got = read_at(file, from, &mut window);
-    let n = got.count;
-    Seen {
-        walked: boxes::walk(&window[..n], room, kind),
-        error: got.error,
+    match read_at(file, from, &mut window) {
+        Ok(n) => walked(&window[..n], end - from, kind, Trouble::Ended),
+        Err(e) => walked(&[], end - from, kind, Trouble::Unread(e.raw_os_error())),
     }
 }
 
@@ -131,33 +102,28 @@ fn moved(h: Header, from: u64, end: u64) -> Header
 {
     Header {
         at: from + h.at,
-        kind: h.kind,
-        length: h.length,
-        size: h.size,
+        ..h
     }
 }
 
 // What a box holds that starts after as many bytes more as are skipped.
-fn held(h: Header, from: u64, end: u64, skip: u8) -> Found
+fn held(h: Header, from: u64, end: u64, skip: u8) -> Result<Option<Span>, Trouble>
     requires { (from ≤ end) × Lying (end - from) (Walked.Found h) }
     ensures { FoundIn from end result }
 {
-    let length = h.length;
-    let size = h.size;
-    let least = length + skip as u64;
+    let least = h.length + u64::from(skip);
     let header = moved(h, from, end);
-    let at = header.at;
-    if size < least {
-        return Found::Bad(Trouble::Small { header, least });
+    if h.size < least {
+        return Err(Trouble::Small { header, least });
     }
-    Found::In(Span {
-        from: at + least,
-        end: at + size,
-    })
+    Ok(Some(Span {
+        from: header.at + least,
+        end: header.at + h.size,
+    }))
 }
 
 // What a walk came to, by where it stands in the file.
-fn placed(seen: Walked, from: u64, end: u64, skip: u8) -> Found
+fn placed(seen: Walked, from: u64, end: u64, skip: u8) -> Result<Option<Span>, Trouble>
     requires { (from ≤ end) × Lying (end - from) seen }
     ensures { FoundIn from end result }
 {
@@ -166,39 +132,43 @@ fn placed(seen: Walked, from: u64, end: u64, skip: u8) -> Found
         Walked::Beyond(h) => {
             let header = moved(h, from, end);
             let left = end - header.at;
-            Found::Bad(Trouble::Beyond { header, left })
+            Err(Trouble::Beyond { header, left })
         }
         Walked::Small(h) => {
             let header = moved(h, from, end);
             let least = h.length;
-            Found::Bad(Trouble::Small { header, least })
+            Err(Trouble::Small { header, least })
         }
-        Walked::Further(_) => Found::Bad(Trouble::Unread(0)),
+        Walked::Further(_) => Err(Trouble::Ended),
         Walked::Cut(p) => {
             let at = from + p;
             let left = end - at;
-            Found::Bad(Trouble::Cut { at, left })
+            Err(Trouble::Cut { at, left })
         }
-        Walked::End => Found::Nothing,
+        Walked::End => Ok(None),
     }
 }
 
-// The first box of a kind between two positions. What it holds is told without as many bytes in front as are skipped.
-pub fn find(file: &impl FileExt, from: u64, end: u64, kind: u32, skip: u8) -> Found
+// The first box of a kind, or of any, between two positions. What it holds is told without as many bytes in front as are skipped.
+pub fn find(
+    file: &impl FileExt,
+    from: u64,
+    end: u64,
+    kind: Option<u32>,
+    skip: u8,
+) -> Result<Option<Span>, Trouble>
     ensures { FoundIn from end result }
 {
     let mut at = from;
+    // A while loop: the walk goes on from where reading stopped.
     while at < end {
-        let seen = look(file, at, end - at, kind);
-        let Walked::Further(on) = seen.walked else {
-            return placed(seen.walked, at, end, skip);
+        let seen = look(file, at, end, kind)?;
+        let Walked::Further(on) = seen else {
+            return placed(seen, at, end, skip);
         };
-        if on == 0 {
-            return Found::Bad(Trouble::Unread(seen.error));
-        }
         at += on;
     }
-    Found::Nothing
+    Ok(None)
 }
 
 // How many bytes a box of this kind has in front of the boxes that it holds: its version and flags, and how many there are.
@@ -213,23 +183,21 @@ fn in_front(kind: u32) -> u8
 }
 
 // The box at the end of a path of kinds, each in the one before.
-pub fn descend(file: &impl FileExt, from: u64, end: u64, path: &[u32]) -> Found
+pub fn descend(
+    file: &impl FileExt,
+    from: u64,
+    end: u64,
+    path: &[u32],
+) -> Result<Option<Span>, Trouble>
     requires { from ≤ end }
     ensures { Here from end result }
 {
-    let mut start = from;
-    let mut stop = end;
-    for i in 0..path.len() {
-        let kind = path[i];
-        let found = find(file, start, stop, kind, in_front(kind));
-        let Found::In(s) = found else {
-            return found;
+    let mut part = Span { from, end };
+    for &kind in path {
+        let Some(s) = find(file, part.from, part.end, Some(kind), in_front(kind))? else {
+            return Ok(None);
         };
-        start = s.from;
-        stop = s.end;
+        part = s;
     }
-    Found::In(Span {
-        from: start,
-        end: stop,
-    })
+    Ok(Some(part))
 }

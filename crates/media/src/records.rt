@@ -1,12 +1,12 @@
 // Colour records: what one says, and what several of them come to.
 ghost use Rattle.std.specs.Prelude.{◌≡◌, ◌≤◌, ◌<◌, length};
-ghost use Rattle.media.specs.Saying.{letters_of, older_of, nclx_said, older_said, record_said, older_key, label_key, key_of, beside, across};
+ghost use Rattle.media.specs.Saying.{letters_of, older_of, nclx_said, older_said, record_said, older_key, label_key, key_of, between, merged, beside, across};
 ghost use Rattle.media.specs.SaidIn.{SaidIn};
 ghost use Rattle.media.specs.Inside.{TroubleIn};
 
 use crate::finding;
-use crate::finding::{Found, Trouble};
-use nclx::{ColourLabel, LabelRead};
+use crate::finding::Trouble;
+use nclx::ColourLabel;
 use std::os::unix::fs::FileExt;
 
 // The codes of an older record.
@@ -17,7 +17,7 @@ pub struct Codes {
     pub matrix: u16,
 }
 
-// What a part of a file says of its colour.
+// What a part of a file says of its colour, where there is no trouble with it.
 #[derive(Clone, Copy)]
 pub enum Said {
     // it is no picture
@@ -33,29 +33,31 @@ pub enum Said {
     Refused(u8),
     // there are records that do not agree
     Differ,
-    Bad(Trouble),
 }
 
-// Four letters as one number.
-const COLR: u32 = 1668246642;
+// Four letters as one number, a byte for each.
+const COLR: u32 = 0x636f_6c72;
 
-const NCLC: u32 = 1852009571;
+const NCLC: u32 = 0x6e63_6c63;
 
-const PROF: u32 = 1886547814;
+const PROF: u32 = 0x7072_6f66;
 
-const RICC: u32 = 1917403971;
+const RICC: u32 = 0x7249_4343;
 
 // How long an 'nclc' record is.
 const OLDER_BYTES: usize = 10;
 
-// The first four letters of a record, or 0 where it has none.
-fn letters_of(bytes: &[u8]) -> u32
+// One byte more than a whole record has.
+const RECORD_ROOM: u64 = 12;
+
+// The first four letters of a record, where it has so many.
+fn letters_of(bytes: &[u8]) -> Option<u32>
     ensures { result ≡ letters_of bytes.now }
 {
     if bytes.len() < 4 {
-        return 0;
+        return None;
     }
-    boxes::word_at(bytes, 0)
+    Some(boxes::word_at(bytes, 0))
 }
 
 // The codes of 16 bits that follow the letters.
@@ -65,13 +67,10 @@ fn older_of(bytes: &[u8]) -> Codes
 {
     let two = boxes::word_at(bytes, 4);
     let last = boxes::word_at(bytes, 6);
-    let primaries = (two / 65536) as u16;
-    let transfer = (two % 65536) as u16;
-    let matrix = (last % 65536) as u16;
     Codes {
-        primaries,
-        transfer,
-        matrix,
+        primaries: (two / 65536) as u16,
+        transfer: (two % 65536) as u16,
+        matrix: (last % 65536) as u16,
     }
 }
 
@@ -81,8 +80,8 @@ fn nclx_said(bytes: &[u8]) -> Said
     ensures { result ≡ nclx_said bytes.now }
 {
     match nclx::read(bytes) {
-        LabelRead::Label(label) => Said::Label(label),
-        LabelRead::Refused(refusal) => Said::Refused(refusal.number),
+        Ok(label) => Said::Label(label),
+        Err(refusal) => Said::Refused(refusal.number),
     }
 }
 
@@ -92,9 +91,10 @@ fn older_said(bytes: &[u8]) -> Said
     ensures { result ≡ older_said bytes.now }
 {
     if bytes.len() == OLDER_BYTES {
-        return Said::Older(older_of(bytes));
+        Said::Older(older_of(bytes))
+    } else {
+        nclx_said(bytes)
     }
-    nclx_said(bytes)
 }
 
 // What a record says.
@@ -102,41 +102,29 @@ fn older_said(bytes: &[u8]) -> Said
 pub fn record_said(bytes: &[u8]) -> Said
     ensures { result ≡ record_said bytes.now }
 {
-    let letters = letters_of(bytes);
-    if letters == PROF {
-        return Said::Profile;
+    match letters_of(bytes) {
+        Some(PROF | RICC) => Said::Profile,
+        Some(NCLC) => older_said(bytes),
+        _ => nclx_said(bytes),
     }
-    if letters == RICC {
-        return Said::Profile;
-    }
-    if letters == NCLC {
-        return older_said(bytes);
-    }
-    nclx_said(bytes)
 }
 
 // One number is made of what is said: what counts more is larger by this, and the same is said where the number is the same.
-const RANK: u64 = 281474976710656;
+const RANK: u64 = 1 << 48;
 
 fn older_key(c: Codes) -> u64
     ensures value { result ≡ older_key c }
     ensures upper_bound { result < 281474976710656 }
 {
-    let primaries = c.primaries as u64;
-    let transfer = c.transfer as u64;
-    let matrix = c.matrix as u64;
-    (primaries * 65536 + transfer) * 65536 + matrix
+    (u64::from(c.primaries) * 65536 + u64::from(c.transfer)) * 65536 + u64::from(c.matrix)
 }
 
 fn label_key(l: ColourLabel) -> u64
     ensures value { result ≡ label_key l }
     ensures upper_bound { result < 33554432 }
 {
-    let primaries = l.primaries as u64;
-    let transfer = l.transfer as u64;
-    let matrix = l.matrix as u64;
-    let range = sample::one_if(l.full) as u64;
-    ((primaries * 256 + transfer) * 256 + matrix) * 2 + range
+    let codes = (u64::from(l.primaries) * 256 + u64::from(l.transfer)) * 256 + u64::from(l.matrix);
+    codes * 2 + u64::from(l.full)
 }
 
 #[tactic(auto, unfolding(crate::specs::Saying::key_of))]
@@ -149,115 +137,115 @@ fn key_of(said: Said) -> u64
         Said::Profile => 2 * RANK,
         Said::Older(c) => 3 * RANK + older_key(c),
         Said::Label(l) => 4 * RANK + label_key(l),
-        Said::Refused(n) => 4 * RANK + 33554432 + n as u64,
+        Said::Refused(n) => 4 * RANK + 33554432 + u64::from(n),
         Said::Differ => 5 * RANK,
-        Said::Bad(_) => 6 * RANK,
     }
 }
 
-// What two records of one picture come to: the one that counts more, and of two that count the same none.
-#[tactic(auto, unfolding(crate::specs::Saying::beside))]
-pub fn beside(a: Said, b: Said) -> Said
-    ensures { result ≡ beside a b }
+// The one that counts more, and of two that count the same none.
+#[tactic(auto, unfolding(crate::specs::Saying::merged))]
+fn merged(a: Said, b: Said) -> Said
+    ensures { result ≡ merged a b }
 {
     let x = key_of(a);
     let y = key_of(b);
     if x == y {
-        return a;
+        a
+    } else if x / RANK < y / RANK {
+        b
+    } else if y / RANK < x / RANK {
+        a
+    } else {
+        Said::Differ
     }
-    let p = x / RANK;
-    let q = y / RANK;
-    if p < q {
-        return b;
+}
+
+// The one that is a picture, and of two the same.
+#[tactic(auto, unfolding(crate::specs::Saying::between))]
+fn between(a: Said, b: Said) -> Said
+    ensures { result ≡ between a b }
+{
+    let x = key_of(a);
+    let y = key_of(b);
+    if x == y {
+        a
+    } else if x / RANK == 0 {
+        b
+    } else if y / RANK == 0 {
+        a
+    } else {
+        Said::Differ
     }
-    if q < p {
-        return a;
-    }
-    Said::Differ
+}
+
+// What two records of one picture come to: the one that counts more. Trouble counts most.
+pub fn beside(a: Result<Said, Trouble>, b: Result<Said, Trouble>) -> Result<Said, Trouble>
+    ensures { result ≡ beside a b }
+{
+    Ok(merged(a?, b?))
 }
 
 // What two pictures of one file come to: they have to say the same, and trouble with one is trouble with both. What is no picture says nothing.
-#[tactic(auto, unfolding(crate::specs::Saying::across))]
-pub fn across(a: Said, b: Said) -> Said
+pub fn across(a: Result<Said, Trouble>, b: Result<Said, Trouble>) -> Result<Said, Trouble>
     ensures { result ≡ across a b }
 {
-    let x = key_of(a);
-    let y = key_of(b);
-    if x == y {
-        return a;
-    }
-    let p = x / RANK;
-    let q = y / RANK;
-    if p == 0 {
-        return b;
-    }
-    if q == 0 {
-        return a;
-    }
-    if 5 < q {
-        return b;
-    }
-    if 5 < p {
-        return a;
-    }
-    Said::Differ
+    Ok(between(a?, b?))
 }
 
 // What a record says that fills a buffer.
-fn read_said(file: &impl FileExt, from: u64, end: u64, bytes: &mut [u8]) -> Said
+fn read_said(file: &impl FileExt, from: u64, end: u64, bytes: &mut [u8]) -> Result<Said, Trouble>
     ensures { SaidIn from end result }
 {
-    let got = finding::read_at(file, from, bytes);
-    if got.count < bytes.len() {
-        return Said::Bad(Trouble::Unread(got.error));
+    match finding::read_at(file, from, bytes) {
+        Ok(n) if n < bytes.len() => Err(Trouble::Ended),
+        Err(e) if !bytes.is_empty() => Err(Trouble::Unread(e.raw_os_error())),
+        // the bytes were read, or there are none, and nothing of the record is lost
+        _ => Ok(record_said(bytes)),
     }
-    record_said(bytes)
 }
 
 // What the record says that lies between two positions. Of one that is too long a byte more is read than of a whole one.
-fn record_at(file: &impl FileExt, from: u64, end: u64) -> Said
+fn record_at(file: &impl FileExt, from: u64, end: u64) -> Result<Said, Trouble>
     requires { from ≤ end }
     ensures { SaidIn from end result }
 {
-    let mut bytes = [0u8; 12];
-    if end - from < 12 {
-        let n = (end - from) as usize;
-        return read_said(file, from, end, &mut bytes[..n]);
-    }
-    read_said(file, from, end, &mut bytes)
+    let mut bytes = [0u8; RECORD_ROOM as usize];
+    let n = (end - from).min(RECORD_ROOM) as usize;
+    read_said(file, from, end, &mut bytes[..n])
 }
 
 // What was said, where the boxes end in four zero bytes, as those of a QuickTime file may; otherwise the trouble.
-fn ended(file: &impl FileExt, from: u64, end: u64, t: Trouble, said: Said) -> Said
+fn ended(
+    file: &impl FileExt,
+    from: u64,
+    end: u64,
+    t: Trouble,
+    said: Result<Said, Trouble>,
+) -> Result<Said, Trouble>
     requires { TroubleIn from end t × SaidIn from end said }
     ensures { SaidIn from end result }
 {
-    let Trouble::Cut { at, left } = t else {
-        return Said::Bad(t);
-    };
-    if left != 4 {
-        return Said::Bad(t);
+    match t {
+        Trouble::Cut { at, left: 4 } if finding::number_at(file, at, end) == Some(0) => said,
+        _ => Err(t),
     }
-    if finding::number_at(file, at, end) != 0 {
-        return Said::Bad(t);
-    }
-    said
 }
 
 // What the records between two positions say of one picture.
-pub fn records_said(file: &impl FileExt, from: u64, end: u64) -> Said
+pub fn records_said(file: &impl FileExt, from: u64, end: u64) -> Result<Said, Trouble>
     ensures { SaidIn from end result }
 {
-    let mut said = Said::Nothing;
+    let mut said = Ok(Said::Nothing);
     let mut at = from;
+    // A while loop: the walk goes on from where the record ends.
     while at < end {
-        match finding::find(file, at, end, COLR, 0) {
-            Found::In(s) => {
+        match finding::find(file, at, end, Some(COLR), 0) {
+            Ok(Some(s)) => {
                 said = beside(said, record_at(file, s.from, s.end));
                 at = s.end;
             }
-            Found::Nothing => return said,
-            Found::Bad(t) => return ended(file, from, end, t, said),
+            Ok(None) => return said,
+            Err(t) => return ended(file, from, end, t, said),
         }
     }
     said

@@ -39,11 +39,9 @@ pub fn level(v: u16, s: Scale) -> f32
     requires { Measurable s }
     ensures { result ≡ float_quotient v s }
 {
-    let plus = s.plus;
-    let times = s.times;
-    let above = v as i32 - plus as i32;
+    let above = v as i32 - s.plus as i32;
     let numerator = above as f32;
-    let denominator = times as f32;
+    let denominator = s.times as f32;
     numerator / denominator
 }
 

@@ -1,4 +1,5 @@
 -- What is known of a record that no rule refuses, and what a written one is byte by byte.
+use Rattle.std.specs.Prelude.{Ok}
 use mathlib.Core.Path.{◌≡◌}
 use mathlib.Core.Bool.{Bool, true, false}
 use mathlib.Core.List.{List, [], ◌∷◌, ◌++◌}
@@ -8,7 +9,6 @@ use borrow.Author.Tests.{eqb-true, ltb-false, not-false}
 use lib.ListN.{length}
 use lib.Seq.{ext_get_or}
 use Rattle.refusal.specs.Rules.{first}
-use Rattle.refusal.specs.declared.Check.TheVariants.{Passed}
 use Rattle.refusal.proofs.RuleLaws.{passed_over}
 use Rattle.sample.proofs.Choices.{neither}
 use Rattle.tables.specs.Table.{tab}
@@ -16,7 +16,7 @@ use Rattle.tables.proofs.Tables.{length_tab, tab_at}
 use Rattle.nclx.specs.Record.{letters, byte_at, primaries_in, transfer_in, matrix_in, some_code, wrong_length, code_above, record_rules, CodesFit, Sound, code_bytes, range_of, record_of}
 use Rattle.nclx.specs.declared.ColourLabel.{ColourLabel}
 
-pub sound : (bytes : List ℕ) → first (record_rules bytes) ≡ Passed → Sound bytes
+pub sound : (bytes : List ℕ) → first (record_rules bytes) ≡ Ok tt → Sound bytes
 unfolding wrong_length code_above
 sound bytes e =
     let long = passed_over _ _ e in

@@ -1,4 +1,5 @@
 -- A label that is written reads as itself, and a record that is read is written as it was.
+use Rattle.std.specs.Prelude.{Result, Ok, Err}
 use mathlib.Core.Path.{◌≡◌, refl, sym, ap, ◌∙◌}
 use mathlib.Core.Bool.{Bool, true, false, not, ◌||◌, or-false, true≢false}
 use mathlib.Core.List.{List, [], ◌∷◌}
@@ -9,14 +10,12 @@ use lib.Dec.{eqb, ltb}
 use lib.ListN.{length, drop}
 use lib.Seq.{drop-cons, drop-length}
 use Rattle.refusal.specs.Rules.{first}
-use Rattle.refusal.specs.declared.Check.{Check}
-use Rattle.refusal.specs.declared.Check.TheVariants.{Passed, Refused}
 use Rattle.refusal.proofs.RuleLaws.{passed_over}
 use Rattle.sample.proofs.Choices.{both_true}
 use Rattle.nclx.specs.Record.{byte_at, range_in, flag, full_in, CodesFit, Sound, wrong_length, other_letters, code_above, reserved_bit, record_rules, read_by, label_in, label_read, range_of, record_of}
 use Rattle.nclx.specs.declared.ColourLabel.{ColourLabel}
-use Rattle.nclx.specs.declared.LabelRead.TheVariants as read
 use Rattle.nclx.proofs.RecordLaws.{sound, written}
+use Rattle.refusal.specs.declared.Refusal.{Refusal}
 
 -- ---- written, then read
 
@@ -30,18 +29,18 @@ module _ (p t m : ℕ) (hp : p ≤ 255) (ht : t ≤ 255) (hm : m ≤ 255) where
   abbrev plain : Bool → List ℕ
   plain full = 110 ∷ 99 ∷ 108 ∷ 120 ∷ 0 ∷ p ∷ 0 ∷ t ∷ 0 ∷ m ∷ range_of full ∷ []
 
-  plain_passes : (full : Bool) → first (record_rules (plain full)) ≡ Passed
+  plain_passes : (full : Bool) → first (record_rules (plain full)) ≡ Ok tt
   unfolding first wrong_length other_letters code_above reserved_bit
   plain_passes true = rw (below p hp, below t ht, below m hm)
   plain_passes false = rw (below p hp, below t ht, below m hm)
 
-  plain_reads : (full : Bool) → label_read (plain full) ≡ read.Label (record { primaries = p; transfer = t; matrix = m; full = full })
+  plain_reads : (full : Bool) → label_read (plain full) ≡ Ok (record { primaries = p; transfer = t; matrix = m; full = full })
   unfolding label_read
   plain_reads true = ap (read_by (plain true)) (plain_passes true) ∙ rw (low p, low t, low m)
   plain_reads false = ap (read_by (plain false)) (plain_passes false) ∙ rw (low p, low t, low m)
 
 -- reading what was written gives the label
-pub written_reads : (l : ColourLabel) → CodesFit l → label_read (record_of l) ≡ read.Label l
+pub written_reads : (l : ColourLabel) → CodesFit l → label_read (record_of l) ≡ Ok l
 written_reads l h =
     rw (written l h) (plain_reads l.primaries l.transfer l.matrix h.primaries_fits h.transfer_fits h.matrix_fits l.full)
 
@@ -70,7 +69,7 @@ record Kept (bytes : List ℕ) : Type 0 where
   letter3 : byte_at bytes 3 ≡ 120
   range : range_of (full_in bytes) ≡ range_in bytes
 
-kept : (bytes : List ℕ) → first (record_rules bytes) ≡ Passed → Kept bytes
+kept : (bytes : List ℕ) → first (record_rules bytes) ≡ Ok tt → Kept bytes
 unfolding other_letters reserved_bit
 kept bytes e =
     let long = passed_over _ _ e in
@@ -114,12 +113,12 @@ module _ (bytes : List ℕ) (k : Kept bytes) where
   same_record = rewritten ∙ elements_are 11 0 bytes (sym k.is_sound.whole)
 
 -- what a read comes to tells what the rules came to
-pub read_passed : (bytes : List ℕ) (c : Check) (l : ColourLabel) → read_by bytes c ≡ read.Label l → (c ≡ Passed) × (label_in bytes ≡ l)
-read_passed bytes Passed l e = (refl, cc)
-read_passed bytes (Refused x) l e = absurd (true≢false cc)
+pub read_passed : (bytes : List ℕ) (c : Result Unit Refusal) (l : ColourLabel) → read_by bytes c ≡ Ok l → (c ≡ Ok tt) × (label_in bytes ≡ l)
+read_passed bytes (Ok u) l e = (refl, cc)
+read_passed bytes (Err x) l e = absurd (true≢false cc)
 
 -- a record is accepted with a label exactly if no rule refuses it and it is that label, written
-pub read_writes : (bytes : List ℕ) (l : ColourLabel) → label_read bytes ≡ read.Label l → record_of l ≡ bytes
+pub read_writes : (bytes : List ℕ) (l : ColourLabel) → label_read bytes ≡ Ok l → record_of l ≡ bytes
 unfolding label_read
 read_writes bytes l e =
     let t = read_passed bytes (first (record_rules bytes)) l e in

@@ -1,13 +1,10 @@
 -- The 'nclx' colour record of ISO/IEC 14496-12: four letters, then primaries, transfer and matrix as 16-bit numbers, high byte first, then one byte
 -- with the full-range flag on top and seven reserved bits below it.
-use Rattle.std.specs.Prelude.{◌≡◌, Bool, not, cond, ◌&&◌, ◌||◌, List, [], ◌∷◌, ◌++◌, ℕ, ◌+◌, ◌*◌, ◌/◌, ◌%◌, ◌≤◌, eqb, ltb, length, get_or}
+use Rattle.std.specs.Prelude.{◌≡◌, Bool, not, cond, ◌&&◌, ◌||◌, List, [], ◌∷◌, ◌++◌, ℕ, ◌+◌, ◌*◌, ◌/◌, ◌%◌, ◌≤◌, eqb, ltb, length, get_or, Result, Ok, Err}
 use Rattle.refusal.specs.Rules.{Rule, rule, first}
-use Rattle.refusal.specs.declared.Check.{Check}
-use Rattle.refusal.specs.declared.Check.TheVariants as check
 use Rattle.tables.specs.Table.{zeros}
 use Rattle.nclx.specs.declared.ColourLabel.{ColourLabel}
-use Rattle.nclx.specs.declared.LabelRead.{LabelRead}
-use Rattle.nclx.specs.declared.LabelRead.TheVariants as read
+use Rattle.refusal.specs.declared.Refusal.{Refusal}
 
 -- how long a record is, and how it begins: n, c, l, x
 abbrev pub record_bytes : ℕ
@@ -84,11 +81,11 @@ pub record Sound (bytes : List ℕ) : Type 0 where
   pub whole : length bytes ≡ record_bytes
   pub codes : CodesFit (label_in bytes)
 
-abbrev pub read_by : List ℕ → Check → LabelRead
-read_by bytes check.Passed = read.Label (label_in bytes)
-read_by bytes (check.Refused x) = read.Refused x
+abbrev pub read_by : List ℕ → Result Unit Refusal → Result ColourLabel Refusal
+read_by bytes (Ok u) = Ok (label_in bytes)
+read_by bytes (Err x) = Err x
 
-unfoldable pub label_read : List ℕ → LabelRead
+unfoldable pub label_read : List ℕ → Result ColourLabel Refusal
 label_read bytes = read_by bytes (first (record_rules bytes))
 
 -- ---- a label, written

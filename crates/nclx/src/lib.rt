@@ -10,7 +10,7 @@ mod rules;
 pub mod writing;
 
 use crate::rules::{check_record, code_at};
-use refusal::{Check, Refusal};
+use refusal::Refusal;
 
 // How long a record is.
 pub const RECORD_BYTES: usize = 11;
@@ -26,34 +26,22 @@ pub struct ColourLabel {
     pub full: bool,
 }
 
-#[derive(Clone, Copy)]
-pub enum LabelRead {
-    Label(ColourLabel),
-    Refused(Refusal),
-}
-
 // What a record says that is well formed.
 fn label_in(bytes: &[u8]) -> ColourLabel
     requires { Sound bytes.now }
     ensures { result ≡ label_in bytes.now }
 {
-    let primaries = code_at(bytes, 4) as u8;
-    let transfer = code_at(bytes, 6) as u8;
-    let matrix = code_at(bytes, 8) as u8;
-    let full = bytes[10] == FLAG;
     ColourLabel {
-        primaries,
-        transfer,
-        matrix,
-        full,
+        primaries: code_at(bytes, 4) as u8,
+        transfer: code_at(bytes, 6) as u8,
+        matrix: code_at(bytes, 8) as u8,
+        full: bytes[10] == FLAG,
     }
 }
 
-pub fn read(bytes: &[u8]) -> LabelRead
+pub fn read(bytes: &[u8]) -> Result<ColourLabel, Refusal>
     ensures { result ≡ label_read bytes.now }
 {
-    match check_record(bytes) {
-        Check::Refused(refusal) => LabelRead::Refused(refusal),
-        Check::Passed => LabelRead::Label(label_in(bytes)),
-    }
+    check_record(bytes)?;
+    Ok(label_in(bytes))
 }

@@ -3,28 +3,28 @@ ghost use Rattle.std.specs.Prelude.{◌≡◌, ◌≤◌, length};
 ghost use Rattle.nclx.specs.Choice.{choice, part_bytes, last_seven, chosen_part, chosen_number};
 
 use crate::rules::{check_container, check_record};
-use refusal::{Check, Refusal};
+use refusal::Refusal;
 
 // How long the part is that has the codes and the flag.
 const PART_BYTES: usize = 7;
 
+// The record that is believed.
 #[derive(Clone, Copy)]
-pub enum Choice {
+pub enum Winner {
     Container,
     Stream,
-    Refused(Refusal),
 }
 
 #[tactic(auto, unfolding(crate::specs::Choice::choice))]
-pub fn pick(container: &[u8], stream: &[u8]) -> Choice
+pub fn pick(container: &[u8], stream: &[u8]) -> Result<Winner, Refusal>
     ensures { result ≡ choice container.now stream.now }
 {
-    match check_container(container) {
-        Check::Passed => Choice::Container,
-        Check::Refused(refusal) => match check_record(stream) {
-            Check::Passed => Choice::Stream,
-            Check::Refused(_) => Choice::Refused(refusal),
-        },
+    let Err(refusal) = check_container(container) else {
+        return Ok(Winner::Container);
+    };
+    match check_record(stream) {
+        Ok(()) => Ok(Winner::Stream),
+        Err(_) => Err(refusal),
     }
 }
 
@@ -33,20 +33,20 @@ fn last_seven(bytes: &[u8]) -> &[u8]
     requires { part_bytes ≤ length bytes.now }
     ensures { result.now ≡ last_seven bytes.now }
 {
-    let from = bytes.len() - PART_BYTES;
-    &bytes[from..]
+    &bytes[bytes.len() - PART_BYTES..]
 }
 
-// The winner's last seven bytes, and 0; or nothing, and the refusal's number.
+// The winner's last seven bytes, and 0; or nothing, and the refusal's number. The number stands beside the part since `LendsPart` (promises/specs/Records.antt)
+// speaks of both.
 pub fn picked_part<'a>(container: &'a [u8], stream: &'a [u8], number: &mut u8) -> &'a [u8]
     ensures result_value { result.now ≡ chosen_part (choice container.now stream.now) container.now stream.now }
     ensures number_after { number.new ≡ chosen_number (choice container.now stream.now) }
 {
     *number = 0;
     match pick(container, stream) {
-        Choice::Container => last_seven(container),
-        Choice::Stream => last_seven(stream),
-        Choice::Refused(refusal) => {
+        Ok(Winner::Container) => last_seven(container),
+        Ok(Winner::Stream) => last_seven(stream),
+        Err(refusal) => {
             *number = refusal.number;
             &container[..0]
         }

@@ -58,9 +58,7 @@ fn plan_lossless(way: Way, d: Depths) -> Plan
 fn plan_ycgco(way: Way, d: Depths) -> Plan
     ensures { result ≡ ycgco_plan way d }
 {
-    let rgb = d.rgb.0;
-    let chroma = d.chroma.0;
-    if rgb < chroma {
+    if d.rgb.0 < d.chroma.0 {
         return plan_lossless(way, d);
     }
     plan_lossy(way, d)
@@ -82,20 +80,16 @@ pub fn plan_of(way: Way, s: Served) -> Plan
     requires { Ready s }
     ensures { result ≡ plan_of way s }
 {
-    let formulas = s.formulas;
-    let depths = s.depths;
-    let rgb_full = s.rgb_full;
-    let ycc_full = s.ycc_full;
-    match formulas {
+    match s.formulas {
         Formulas::ChangePlaces => plan_places(way),
-        Formulas::YCgCo => plan_ycgco(way, depths),
+        Formulas::YCgCo => plan_ycgco(way, s.depths),
         Formulas::Levels(matrix) => plan_levels(
             way,
             matrix,
             LevelSetting {
-                depths,
-                rgb_full,
-                ycc_full,
+                depths: s.depths,
+                rgb_full: s.rgb_full,
+                ycc_full: s.ycc_full,
             },
         ),
     }

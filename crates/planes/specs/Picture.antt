@@ -2,7 +2,8 @@
 use Rattle.std.specs.Prelude.{List, [], ◌∷◌, ℕ, ◌<◌, length, get_or}
 use Rattle.sample.specs.declared.Pixel.{Pixel}
 use Rattle.planes.specs.Plane.{sample_at}
-use Rattle.planes.specs.Sizes.{layout}
+use Rattle.planes.specs.Three.{Three, three}
+use Rattle.planes.specs.Sizes.{layout, Fits}
 use Rattle.planes.specs.declared.size.Layout.{Layout}
 
 pub record Picture : Type 0 where
@@ -16,6 +17,10 @@ pub record Picture : Type 0 where
 abbrev pub picture : ℕ → ℕ → ℕ → List ℕ → List ℕ → List ℕ → Picture
 picture width height stride p0 p1 p2 =
     record { width = width; height = height; stride = stride; p0 = p0; p1 = p1; p2 = p2 }
+
+-- what its planes hold
+abbrev pub rows_of : Picture → Three
+rows_of a = three a.p0 a.p1 a.p2
 
 -- its planes, in their order
 abbrev pub planes : Picture → List (List ℕ)
@@ -31,6 +36,14 @@ sample_of k p = get_or (p.p0 ∷ p.p1 ∷ p.p2 ∷ []) k 0
 -- its stride, and how many elements its planes have
 abbrev pub layout_of : Picture → Layout
 layout_of a = layout a.stride (length a.p0) (length a.p1) (length a.p2)
+
+-- planes of layout b have room for it: no rule on sizes refuses its width and height with them
+abbrev pub RoomFor : Picture → Layout → Type 0
+RoomFor a b = Fits a.width a.height b
+
+-- its own planes have
+abbrev pub PictureFits : Picture → Type 0
+PictureFits a = RoomFor a (layout_of a)
 
 -- its pixel at row j and column i
 abbrev pub pixel_of : Picture → ℕ → ℕ → Pixel

@@ -7,9 +7,7 @@ ghost use Rattle.planes.specs.Sizes.{Long};
 fn zero_all(out: &mut [u16])
     ensures { out.new ≡ zeros (length out.old) }
 {
-    for i in 0..out.len() {
-        out[i] = 0;
-    }
+    out.fill(0);
 }
 
 // Every element from a up to e becomes 0.

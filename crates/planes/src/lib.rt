@@ -1,5 +1,7 @@
-// Planes and pictures, whatever the setting: which sizes are refused, and what fills a plane.
+// Planes and pictures, whatever the setting: which sizes are refused, what fills a plane, and three planes, or a whole picture, that travel together.
 #![tactic(auto)]
 
 pub mod fill;
+pub mod picture;
 pub mod size;
+pub mod three;

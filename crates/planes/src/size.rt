@@ -1,9 +1,9 @@
 // Rules 8 and 9: the sizes of a picture, and the lengths of its planes.
 ghost use Rattle.std.specs.Prelude.{◌≡◌, [], ◌∷◌, ◌≤◌, ◌<◌, length};
 ghost use Rattle.refusal.specs.Rules.{first};
-ghost use Rattle.planes.specs.Sizes.{layout, outside, size_outside, layout_short, size_rules, most_size, most_stride, RowStart, Sized};
+ghost use Rattle.planes.specs.Sizes.{layout, outside, size_outside, layout_short, size_rules, needed, most_size, most_stride, RowStart, Sized};
 
-use refusal::{Check, Refusal};
+use refusal::Refusal;
 
 // The largest width and height of a picture, and the largest stride of a plane.
 const MOST_SIZE: usize = 8192;
@@ -43,72 +43,53 @@ pub fn row_start(j: usize, height: usize, stride: usize) -> usize
     j * stride
 }
 
+// How many elements a plane must have.
+pub fn needed(width: usize, height: usize, stride: usize) -> usize
+    requires { Sized width height stride }
+    ensures { result ≡ needed width height stride }
+{
+    row_start(height - 1, height, stride) + width
+}
+
 // Whether n is below `least` or above `most`.
 #[tactic(auto, unfolding(crate::specs::Sizes::outside))]
 fn outside(n: usize, least: usize, most: usize) -> bool
     ensures { result ≡ outside n least most }
 {
-    if n < least {
-        return true;
-    }
-    if most < n {
-        return true;
-    }
-    false
+    n < least || most < n
 }
 
 // Whether the width or the height is outside 1..8192, or a stride is too small for a row or too large.
+#[tactic(auto, unfolding(crate::specs::Sizes::size_outside, crate::specs::Sizes::some_layout))]
 fn size_outside(width: usize, height: usize, a: Layout, b: Layout) -> bool
     ensures { result ≡ size_outside width height (a ∷ b ∷ []) }
 {
-    let a_stride = a.stride;
-    let b_stride = b.stride;
-    if outside(width, 1, MOST_SIZE) {
-        return true;
-    }
-    if outside(height, 1, MOST_SIZE) {
-        return true;
-    }
-    if outside(a_stride, width, MOST_STRIDE) {
-        return true;
-    }
-    outside(b_stride, width, MOST_STRIDE)
+    outside(width, 1, MOST_SIZE)
+        || outside(height, 1, MOST_SIZE)
+        || outside(a.stride, width, MOST_STRIDE)
+        || outside(b.stride, width, MOST_STRIDE)
 }
 
 // Whether one of the layout's planes ends before the picture does.
+#[tactic(auto, unfolding(crate::specs::Sizes::layout_short, crate::specs::Sizes::any_short))]
 fn layout_short(width: usize, height: usize, x: Layout) -> bool
     requires { Sized width height x.stride }
     ensures { result ≡ layout_short width height x }
 {
-    let stride = x.stride;
-    let n0 = x.n0;
-    let n1 = x.n1;
-    let n2 = x.n2;
-    let need = row_start(height - 1, height, stride) + width;
-    if n0 < need {
-        return true;
-    }
-    if n1 < need {
-        return true;
-    }
-    if n2 < need {
-        return true;
-    }
-    false
+    let need = needed(width, height, x.stride);
+    x.n0 < need || x.n1 < need || x.n2 < need
 }
 
 // Rules 8 and 9 of a call that has two layouts.
-pub fn check_sizes(width: usize, height: usize, a: Layout, b: Layout) -> Check
+#[tactic(auto, unfolding(refusal::specs::Rules::first, crate::specs::Sizes::some_layout))]
+pub fn check_sizes(width: usize, height: usize, a: Layout, b: Layout) -> Result<(), Refusal>
     ensures { result ≡ first (size_rules width height (a ∷ b ∷ [])) }
 {
     if size_outside(width, height, a, b) {
-        return Check::Refused(Refusal::numbered(Refusal::SIZE_OUTSIDE));
+        return Err(Refusal::numbered(Refusal::SIZE_OUTSIDE));
     }
-    if layout_short(width, height, a) {
-        return Check::Refused(Refusal::numbered(Refusal::PLANE_SHORT));
+    if layout_short(width, height, a) || layout_short(width, height, b) {
+        return Err(Refusal::numbered(Refusal::PLANE_SHORT));
     }
-    if layout_short(width, height, b) {
-        return Check::Refused(Refusal::numbered(Refusal::PLANE_SHORT));
-    }
-    Check::Passed
+    Ok(())
 }

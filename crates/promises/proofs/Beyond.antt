@@ -1,4 +1,5 @@
 -- What a 10 names, in full: the first bad sample by its place, the number that stands there, and that it has more bits than its depth.
+use Rattle.std.specs.Prelude.{Some}
 use mathlib.Core.Path.{◌≡◌, sym, subst}
 use mathlib.Core.List.{[], ◌∷◌}
 use Prim.Native.Nat.{ℕ, zero, suc, ◌^◌, ◌≤◌, ◌<◌}
@@ -10,7 +11,6 @@ use Rattle.sample.specs.declared.Side.TheVariants.{Ycc}
 use Rattle.refusal.specs.declared.Place.{Place}
 use Rattle.planes.specs.Picture.{Picture, sample_of}
 use Rattle.scan.specs.First.{first_bad, bad_sample, sample_on}
-use Rattle.scan.specs.declared.Bad.TheVariants.{At}
 use Rattle.scan.proofs.Searches.{found_with}
 use Rattle.scan.proofs.SearchTheorems.{at_in_planes_means, at_means}
 use Rattle.setting.specs.Rules.{depths}
@@ -30,7 +30,7 @@ plane_bits side d (suc zero) v l h = more_bits (plane_depth side d 1) v h
 plane_bits side d (suc (suc zero)) v l h = more_bits (plane_depth side d 2) v h
 plane_bits side d (suc (suc (suc k))) v l h = absurd (omega arith)
 
-pub picture_beyond : (side : Side) (s : Setting) (a : Picture) (place : Place) (v : ℕ) → beyond_depth side (depths s) a ≡ At place v → BadIn side s a place v
+pub picture_beyond : (side : Side) (s : Setting) (a : Picture) (place : Place) (v : ℕ) → beyond_depth side (depths s) a ≡ Some (place, v) → BadIn side s a place v
 picture_beyond side s a place v e =
     let f = found_with (sample_on a) (bad_sample a (tops side (depths s))) place v e in
     let b = (at_in_planes_means a (tops side (depths s)) place).0 f.0 in
@@ -41,7 +41,7 @@ picture_beyond side s a place v e =
     }
 
 -- one sample by its kind, which stands alone
-pub sample_beyond : (k : SampleKind) (s : Setting) (v : ℕ) (place : Place) (w : ℕ) → bad_one k (depths s) v ≡ At place w → BadSampleOf k s v place w
+pub sample_beyond : (k : SampleKind) (s : Setting) (v : ℕ) (place : Place) (w : ℕ) → bad_one k (depths s) v ≡ Some (place, w) → BadSampleOf k s v place w
 sample_beyond k s v place w e =
     let f = found_with (λ place. v) (first_bad (v ∷ []) (plane_number k) 1 1 1 (top_of k (depths s))) place w e in
     let b = (at_means (v ∷ []) (plane_number k) 1 1 1 (top_of k (depths s)) place).0 f.0 in

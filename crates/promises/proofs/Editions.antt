@@ -1,5 +1,6 @@
 -- One call on the same codes, depths and flags in two editions: if neither refuses, both are served alike and so give the same. Which of the two is
 -- the older plays no part.
+use Rattle.std.specs.Prelude.{Result, Ok, Option}
 use mathlib.Core.Path.{◌≡◌, sym, ap, ◌∙◌}
 use mathlib.Core.List.{List, []}
 use mathlib.Core.Logic.{◌⊎◌, inl, inr, ⊎_elim}
@@ -13,11 +14,8 @@ use Rattle.setting.specs.declared.Call.{Call}
 use Rattle.setting.specs.declared.Call.TheVariants as call
 use Rattle.setting.specs.declared.Setting.{Setting}
 use Rattle.setting.specs.declared.Way.{Way}
-use Rattle.setting.specs.declared.admission.Admission.{Admission}
-use Rattle.setting.specs.declared.admission.Admission.TheVariants.{Admitted}
 use Rattle.setting.proofs.EditionLaws.{same_served}
 use Rattle.meter.specs.declared.SampleKind.{SampleKind}
-use Rattle.scan.specs.declared.Bad.{Bad}
 use Rattle.planes.specs.Picture.{Picture}
 use Rattle.planes.specs.declared.size.Layout.{Layout}
 use Rattle.admit.specs.Rules.{call_rules, call_admission}
@@ -29,17 +27,19 @@ use Rattle.corkplover.specs.Meaning.{Meaning, meaning_of_pixel, meaning_of_sourc
 use Rattle.promises.specs.Editions.{SameOrRefused, SamePlanesOrRefused}
 use Rattle.promises.specs.Refusing.{Refuses}
 use Rattle.promises.proofs.Refusing.{none_admitted, none_accepted, pixel_refuses, source_refuses, reading_refuses, levels_refuses, frame_refuses, image_refuses, judgement_refuses}
+use Rattle.refusal.specs.declared.Refusal.{Refusal}
+use Rattle.setting.specs.declared.admission.Served.{Served}
 
 -- ---- of any call: who is let in by both editions is let in as the same
 
-module _ (say : Admission → Meaning) (c : Call) (s : Setting) (n : ℕ) (sizes : List Rule) (bad : Bad) (Is Is' : Place → ℕ → Type 0)
+module _ (say : Result Served Refusal → Meaning) (c : Call) (s : Setting) (n : ℕ) (sizes : List Rule) (bad : Option (Place × ℕ)) (Is Is' : Place → ℕ → Type 0)
     (refuses : Refuses (call_rules c s sizes bad) Is (say (call_admission c s sizes bad)))
     (refuses' : Refuses (call_rules c (in_edition n s) sizes bad) Is' (say (call_admission c (in_edition n s) sizes bad)))
   where
-    abbrev one : Admission
+    abbrev one : Result Served Refusal
     one = call_admission c s sizes bad
 
-    abbrev other : Admission
+    abbrev other : Result Served Refusal
     other = call_admission c (in_edition n s) sizes bad
 
     both_admitted : (say one).number ≡ 0 → (say other).number ≡ 0 → other ≡ one
@@ -47,7 +47,7 @@ module _ (say : Admission → Meaning) (c : Call) (s : Setting) (n : ℕ) (sizes
         let none = refuses.exactly.accepted e in
         let none' = refuses'.exactly.accepted f in
         let same = same_served c s n (none_accepted c s sizes bad none).setting (none_accepted c (in_edition n s) sizes bad none').setting in
-        none_admitted c (in_edition n s) sizes bad none' ∙ ap Admitted same ∙ sym (none_admitted c s sizes bad none)
+        none_admitted c (in_edition n s) sizes bad none' ∙ ap Ok same ∙ sym (none_admitted c s sizes bad none)
 
     admitted_alike : (say one).number ≡ 0 → (other ≡ one) ⊎ ((say other).number ≡ 0 → ⊥)
     admitted_alike e = go (ℕ_discrete (say other).number 0)
@@ -98,7 +98,7 @@ pub frame_in_editions : (w : Way) (s : Setting) (n : ℕ) (a : Picture) (b : Lay
     (meaning_of_frame (frame_answer w t a b)) (out_plane 0 w t a b) (out_plane 1 w t a b) (out_plane 2 w t a b)
 unfolding frame_answer out_plane
 frame_in_editions w s n a b e =
-    let plane : ℕ → Admission → List ℕ = λ k v. plane_by v k w a b.stride (length_of k b) in
+    let plane : ℕ → Result Served Refusal → List ℕ = λ k v. plane_by v k w a b.stride (length_of k b) in
     ⊎_elim (λ f. inl (ap (λ v. meaning_of_frame (frame_by v)) f, (ap (plane 0) f, (ap (plane 1) f, ap (plane 2) f)))) inr
     (admitted_alike (λ v. meaning_of_frame (frame_by v)) (call.Convert w) s n _ _ _ _ (frame_refuses w s a b) (frame_refuses w (in_edition n s) a b) e)
 

@@ -1,5 +1,6 @@
 -- Demand 3 on whole pictures: on the settings of the list two pictures with equal conversions are equal, and a converted picture comes back.
 -- Said of any calls that keep the promise on a frame.
+use Rattle.std.specs.Prelude.{Ok}
 use mathlib.Core.Path.{◌≡◌, sym, ap, ◌∙◌, subst}
 use mathlib.Core.List.{List, [], ◌∷◌}
 use Prim.Native.Nat.{ℕ, ◌<◌}
@@ -8,7 +9,6 @@ use lib.ListN.{length}
 use Rattle.sample.specs.Depth.{InsideYCC}
 use Rattle.sample.specs.declared.Side.TheVariants.{Ycc}
 use Rattle.refusal.specs.Rules.{first, NoneApplies}
-use Rattle.refusal.specs.declared.Check.TheVariants.{Passed}
 use Rattle.planes.specs.Picture.{Picture, picture, layout_of, pixel_of, EveryPixel}
 use Rattle.planes.specs.Sizes.{size_rules, Fits}
 use Rattle.planes.specs.declared.size.Layout.{Layout}
@@ -59,7 +59,7 @@ module _ (s : Setting) (l : Listed s) where
       accepted : PictureAccepted (Convert Forward) s a (b ∷ [])
       accepted = frame_accepted Forward s a b free
 
-      image : first (setting_rules ImageCheck s) ≡ Passed
+      image : first (setting_rules ImageCheck s) ≡ Ok tt
       image = taken s accepted.setting l
 
       sent_inside : EveryPixel (InsideYCC (depths s)) sent
@@ -67,7 +67,7 @@ module _ (s : Setting) (l : Listed s) where
           subst (InsideYCC (depths s)) (sym (f.inside e j i x y))
           (forward_inside (served s) (pixel_of a j i) (ready ImageCheck s image) (pixels_inside (Convert Forward) s a (b ∷ []) accepted j i x y))
 
-      sent_sizes : first (size_rules a.width a.height (layout_of sent ∷ d ∷ [])) ≡ Passed
+      sent_sizes : first (size_rules a.width a.height (layout_of sent ∷ d ∷ [])) ≡ Ok tt
       sent_sizes =
           let own = (all_fit (Convert Forward) s a (b ∷ []) accepted).1.0 in
           (sizes_pass a.width a.height (layout_of sent ∷ d ∷ [])).1 (

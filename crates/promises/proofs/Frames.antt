@@ -1,4 +1,5 @@
 -- The promises on a frame hold of the box's answer and of the planes that it leaves.
+use Rattle.std.specs.Prelude.{Result, Ok, Err}
 use mathlib.Core.Path.{◌≡◌, refl, ap, ◌∙◌}
 use mathlib.Core.List.{List, [], ◌∷◌}
 use Prim.Native.Nat.{ℕ, zero, suc, ◌≤◌, ◌<◌}
@@ -16,8 +17,6 @@ use Rattle.setting.specs.Rules.{served}
 use Rattle.setting.specs.declared.Call.TheVariants as call
 use Rattle.setting.specs.declared.Setting.{Setting}
 use Rattle.setting.specs.declared.Way.{Way}
-use Rattle.setting.specs.declared.admission.Admission.{Admission}
-use Rattle.setting.specs.declared.admission.Admission.TheVariants as admission
 use Rattle.plan.specs.Conversion.{convert}
 use Rattle.admit.specs.Rules.{picture_rules, frame_admission}
 use Rattle.admit.proofs.Accepted.{PictureAccepted, all_fit}
@@ -27,12 +26,14 @@ use Rattle.corkplover.specs.Meaning.{Meaning, meaning_of_frame}
 use Rattle.promises.specs.Frames.{ConvertsFrame, Outside}
 use Rattle.promises.specs.Refusing.{RefusedBy}
 use Rattle.promises.proofs.Refusing.{none_admitted, none_accepted, first_refused, frame_refuses}
+use Rattle.refusal.specs.declared.Refusal.{Refusal}
+use Rattle.setting.specs.declared.admission.Served.{Served}
 
 module _ (w : Way) (s : Setting) (a : Picture) (b : Layout) where
   -- after any call the plane is as long as before
-  by_length : (k : ℕ) (v : Admission) → length (plane_by v k w a b.stride (length_of k b)) ≡ length_of k b
-  by_length k (admission.Admitted x) = plane_length (length_of k b) a.width a.height b.stride _
-  by_length k (admission.Refused r) = length_tab (length_of k b) _
+  by_length : (k : ℕ) (v : Result Served Refusal) → length (plane_by v k w a b.stride (length_of k b)) ≡ length_of k b
+  by_length k (Ok x) = plane_length (length_of k b) a.width a.height b.stride _
+  by_length k (Err r) = length_tab (length_of k b) _
 
   plane_long : (k : ℕ) → length (out_plane k w s a b) ≡ length_of k b
   unfolding out_plane
@@ -46,7 +47,7 @@ module _ (w : Way) (s : Setting) (a : Picture) (b : Layout) where
 
   -- an accepted one writes the converted picture
   module _ (h : NoneApplies (picture_rules (call.Convert w) s a (b ∷ []))) where
-    let_in : frame_admission w s a b ≡ admission.Admitted (served s)
+    let_in : frame_admission w s a b ≡ Ok (served s)
     let_in = none_admitted (call.Convert w) s _ _ h
 
     pub frame_accepted : PictureAccepted (call.Convert w) s a (b ∷ [])

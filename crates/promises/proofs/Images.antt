@@ -1,5 +1,6 @@
 -- Demand 3, the image check: its yes means that the picture is the forward conversion of an RGB picture within depth, and the place that it
 -- names otherwise is the first without a source.
+use Rattle.std.specs.Prelude.{Option, Some, None}
 use mathlib.Core.Path.{◌≡◌, refl, sym, ap, ◌∙◌, subst}
 use mathlib.Core.Bool.{true, false, true≢false, not}
 use mathlib.Core.List.{List, [], ◌∷◌}
@@ -15,8 +16,6 @@ use Rattle.refusal.specs.declared.Place.{Place}
 use Rattle.planes.specs.Picture.{Picture, picture, pixel_of, layout_of}
 use Rattle.planes.specs.Plane.{sample_at}
 use Rattle.planes.specs.Sizes.{needed, LongEnough}
-use Rattle.scan.specs.declared.Found.{Found}
-use Rattle.scan.specs.declared.Found.TheVariants as found
 use Rattle.planes.proofs.PlaneTheorems.{plane_length, plane_inside}
 use Rattle.scan.proofs.Searches.{no_place_means, first_place_means}
 use Rattle.planes.proofs.SizeLaws.{index_inside}
@@ -39,17 +38,17 @@ use Rattle.promises.proofs.Refusing.{none_admitted, none_accepted, image_refuses
 use Rattle.promises.proofs.Pixels.{same_word, source_exactly}
 
 -- what was found, from what the answer means
-yes_found : {m : Meaning} (f : Found) → m ≡ meaning_of_image (answer_found f) → m.source ≡ true ∷ [] → f ≡ found.Nothing
-yes_found (found.At place) e q = absurd (true≢false (same_word q (ap (λ m. m.source) e)))
-yes_found found.Nothing e q = refl
+yes_found : {m : Meaning} (f : Option Place) → m ≡ meaning_of_image (answer_found f) → m.source ≡ true ∷ [] → f ≡ None
+yes_found (Some place) e q = absurd (true≢false (same_word q (ap (λ m. m.source) e)))
+yes_found None e q = refl
 
-none_found : {m : Meaning} (f : Found) (place : Place) → m ≡ meaning_of_image (answer_found f) → m.source ≡ false ∷ [] → m.place ≡ place → f ≡ found.At place
-none_found (found.At at) place e q p = ap found.At (sym (ap (λ m. m.place) e) ∙ p)
-none_found found.Nothing place e q p = absurd (true≢false (same_word (ap (λ m. m.source) e) q))
+none_found : {m : Meaning} (f : Option Place) (place : Place) → m ≡ meaning_of_image (answer_found f) → m.source ≡ false ∷ [] → m.place ≡ place → f ≡ Some place
+none_found (Some at) place e q p = ap Some (sym (ap (λ m. m.place) e) ∙ p)
+none_found None place e q p = absurd (true≢false (same_word (ap (λ m. m.source) e) q))
 
-by_found : {m : Meaning} (f : Found) → m ≡ meaning_of_image (answer_found f) → (m.source ≡ true ∷ []) ⊎ (m.source ≡ false ∷ [])
-by_found (found.At place) e = inr (ap (λ m. m.source) e)
-by_found found.Nothing e = inl (ap (λ m. m.source) e)
+by_found : {m : Meaning} (f : Option Place) → m ≡ meaning_of_image (answer_found f) → (m.source ≡ true ∷ []) ⊎ (m.source ≡ false ∷ [])
+by_found (Some place) e = inr (ap (λ m. m.source) e)
+by_found None e = inl (ap (λ m. m.source) e)
 
 module _ (s : Setting) (a : Picture) (h : NoneApplies (picture_rules ImageCheck s a [])) where
   k : PictureAccepted ImageCheck s a []
@@ -126,7 +125,7 @@ module _ (s : Setting) (a : Picture) (h : NoneApplies (picture_rules ImageCheck 
         converts = p.converts j i x y;
       }
 
-  every : (first_failing (has_source (served s)) a ≡ found.Nothing) ↔ ((j i : ℕ) → j < a.height → i < a.width → HasSource (served s) (pixel_of a j i))
+  every : (first_failing (has_source (served s)) a ≡ None) ↔ ((j i : ℕ) → j < a.height → i < a.width → HasSource (served s) (pixel_of a j i))
   every = no_place_means (fails (has_source (served s)) a) 0 a.width a.height _ _ failing passing
 
   -- yes exactly if there is such a picture

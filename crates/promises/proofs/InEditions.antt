@@ -1,4 +1,5 @@
 -- Every entry point in two editions: the same arguments but for the edition's number, answered the same or refused.
+use Rattle.std.specs.Prelude.{Result}
 use mathlib.Core.List.{List}
 use Prim.Native.Nat.{ℕ}
 use lib.ListN.{length}
@@ -10,7 +11,6 @@ use Rattle.planes.specs.Picture.{Picture, picture}
 use Rattle.planes.specs.declared.size.Layout.{Layout}
 use Rattle.rows.specs.Paint.{input_picture, output_layout}
 use Rattle.frame.specs.Frame.{FrameAfter}
-use Rattle.frame.specs.declared.FrameAnswer.{FrameAnswer}
 use Rattle.corkplover.specs.Meaning.{meaning_of_pixel, meaning_of_source, meaning_of_reading, meaning_of_levels, meaning_of_frame, meaning_of_image, meaning_of_judgement}
 use Rattle.corkplover.proofs.Calls.{forward_pixel_answers, reverse_pixel_answers, source_pixel_answers, meter_sample_answers, meter_pixel_answers, image_check_answers, forward_frame_answers, reverse_frame_answers, judge_forward_answers, judge_reverse_answers}
 use Rattle.corkplover.proofs.pixels.forward_pixel.Reads as forward-pixel
@@ -25,6 +25,7 @@ use Rattle.corkplover.proofs.judging.judge_forward.Reads as judge-forward
 use Rattle.corkplover.proofs.judging.judge_reverse.Reads as judge-reverse
 use Rattle.promises.specs.Editions.{SameOrRefused, SamePlanesOrRefused}
 use Rattle.promises.proofs.Editions.{pixel_in_editions, source_in_editions, reading_in_editions, levels_in_editions, image_in_editions, frame_in_editions, judgement_in_editions}
+use Rattle.refusal.specs.declared.Refusal.{Refusal}
 
 pub forward_pixel_in_editions : (κs κs' s n p r r' t t' : _) → forward-pixel.Post κs (s, (p, tt)) r t → forward-pixel.Post κs' (in_edition n s, (p, tt)) r' t'
     → SameOrRefused (meaning_of_pixel r) (meaning_of_pixel r')
@@ -58,7 +59,7 @@ image_check_in_editions κs κs' s n width height stride y cb cr r r' t t' h h' 
     (image_in_editions s n (picture width height stride y.now cb.now cr.now))
 
 -- a frame either way, with what the two calls leave in planes of one length
-frames_in : (w : Way) (s : Setting) (n : ℕ) (a : Picture) (b : Layout) {x x' : FrameAnswer} {p0 p1 p2 q0 q1 q2 : List ℕ} → FrameAfter w s a b x p0 p1 p2
+frames_in : (w : Way) (s : Setting) (n : ℕ) (a : Picture) (b : Layout) {x x' : Result Unit Refusal} {p0 p1 p2 q0 q1 q2 : List ℕ} → FrameAfter w s a b x p0 p1 p2
     → FrameAfter w (in_edition n s) a b x' q0 q1 q2 → SamePlanesOrRefused (meaning_of_frame x) p0 p1 p2 (meaning_of_frame x') q0 q1 q2
 frames_in w s n a b h k =
     rw (h.0, h.1.0, h.1.1.0, h.1.1.1, k.0, k.1.0, k.1.1.0, k.1.1.1) (frame_in_editions w s n a b)

@@ -1,4 +1,5 @@
 -- The promise on a judgement holds of the box's answer: what it is held to is what the frame call leaves.
+use Rattle.std.specs.Prelude.{Option, Some, None, Ok}
 use mathlib.Core.Path.{◌≡◌, refl, sym, ap, ◌∙◌, subst}
 use mathlib.Core.Bool.{true, false, true≢false, not}
 use mathlib.Core.List.{List, [], ◌∷◌}
@@ -18,8 +19,6 @@ use Rattle.setting.specs.declared.Way.{Way}
 use Rattle.planes.specs.Picture.{Picture, layout_of, pixel_of}
 use Rattle.planes.specs.Sizes.{layout}
 use Rattle.planes.specs.declared.size.Layout.{Layout}
-use Rattle.scan.specs.declared.Found.{Found}
-use Rattle.scan.specs.declared.Found.TheVariants as found
 use Rattle.scan.proofs.Searches.{no_place_means, first_place_means}
 use Rattle.plan.specs.Conversion.{convert}
 use Rattle.plan.specs.Source.{same_pixel}
@@ -39,35 +38,35 @@ use Rattle.promises.proofs.Frames.{frame_converts}
 use Rattle.promises.proofs.Pixels.{same_word}
 
 -- what was found, from what the answer means
-agrees_found : {m : Meaning} (f : Found) (n : ℕ) → m ≡ meaning_of_judgement (verdict f n) → m.agrees ≡ true ∷ [] → f ≡ found.Nothing
-agrees_found (found.At place) n e q = absurd (true≢false (same_word q (ap (λ m. m.agrees) e)))
-agrees_found found.Nothing n e q = refl
+agrees_found : {m : Meaning} (f : Option Place) (n : ℕ) → m ≡ meaning_of_judgement (Ok (verdict f n)) → m.agrees ≡ true ∷ [] → f ≡ None
+agrees_found (Some place) n e q = absurd (true≢false (same_word q (ap (λ m. m.agrees) e)))
+agrees_found None n e q = refl
 
-differs_found : {m : Meaning} (f : Found) (n : ℕ) (place : Place) → m ≡ meaning_of_judgement (verdict f n) → m.agrees ≡ false ∷ [] → m.place ≡ place → f ≡ found.At place
-differs_found (found.At at) n place e q p = ap found.At (sym (ap (λ m. m.place) e) ∙ p)
-differs_found found.Nothing n place e q p = absurd (true≢false (same_word (ap (λ m. m.agrees) e) q))
+differs_found : {m : Meaning} (f : Option Place) (n : ℕ) (place : Place) → m ≡ meaning_of_judgement (Ok (verdict f n)) → m.agrees ≡ false ∷ [] → m.place ≡ place → f ≡ Some place
+differs_found (Some at) n place e q p = ap Some (sym (ap (λ m. m.place) e) ∙ p)
+differs_found None n place e q p = absurd (true≢false (same_word (ap (λ m. m.agrees) e) q))
 
-by_found : {m : Meaning} (f : Found) (n : ℕ) → m ≡ meaning_of_judgement (verdict f n) → (m.agrees ≡ true ∷ []) ⊎ (m.agrees ≡ false ∷ [])
-by_found (found.At place) n e = inr (ap (λ m. m.agrees) e)
-by_found found.Nothing n e = inl (ap (λ m. m.agrees) e)
+by_found : {m : Meaning} (f : Option Place) (n : ℕ) → m ≡ meaning_of_judgement (Ok (verdict f n)) → (m.agrees ≡ true ∷ []) ⊎ (m.agrees ≡ false ∷ [])
+by_found (Some place) n e = inr (ap (λ m. m.agrees) e)
+by_found None n e = inl (ap (λ m. m.agrees) e)
 
 -- the count is given where something was found, and is 0 where nothing was
-counted : {m : Meaning} (f : Found) (n : ℕ) → m ≡ meaning_of_judgement (verdict f n) → (f ≡ found.Nothing → n ≡ 0) → m.wrong ≡ n
-counted (found.At place) n e z = ap (λ m. m.wrong) e
-counted found.Nothing n e z = ap (λ m. m.wrong) e ∙ sym (z refl)
+counted : {m : Meaning} (f : Option Place) (n : ℕ) → m ≡ meaning_of_judgement (Ok (verdict f n)) → (f ≡ None → n ≡ 0) → m.wrong ≡ n
+counted (Some place) n e z = ap (λ m. m.wrong) e
+counted None n e z = ap (λ m. m.wrong) e ∙ sym (z refl)
 
 module _ (w : Way) (s : Setting) (a b : Picture) (h : NoneApplies (picture_rules (Convert w) s a (layout_of b ∷ []))) where
   abbrev f : Pixel → Pixel
   f = convert w (served s)
 
-  abbrev first : Found
+  abbrev first : Option Place
   first = first_wrong f a b
 
   abbrev m : Meaning
   m = meaning_of_judgement (judgement w s a b)
 
   -- a call that no rule refuses is answered by the search and the count
-  searched : m ≡ meaning_of_judgement (verdict first (count_wrong f a b))
+  searched : m ≡ meaning_of_judgement (Ok (verdict first (count_wrong f a b)))
   unfolding judgement
   searched = ap (λ v. meaning_of_judgement (judge_by v w a b)) (none_admitted (Convert w) s _ _ h)
 
@@ -89,13 +88,13 @@ module _ (w : Way) (s : Setting) (a b : Picture) (h : NoneApplies (picture_rules
         λ r. must (is_wrong f a b j i) (λ q. r (t.0 (not-false _ q))),
       )
 
-  every : (first ≡ found.Nothing) ↔ SamePixels (own_picture w s a (layout_of b)) b
+  every : (first ≡ None) ↔ SamePixels (own_picture w s a (layout_of b)) b
   every = no_place_means (is_wrong f a b) 0 a.width a.height _ _ failing passing
 
   agrees : (m.agrees ≡ true ∷ []) ↔ SamePixels (own_picture w s a (layout_of b)) b
   agrees = (
     λ q. every.0 (agrees_found first _ searched q),
-    λ r. ap (λ m. m.agrees) (searched ∙ ap (λ g. meaning_of_judgement (verdict g (count_wrong f a b))) (every.1 r)),
+    λ r. ap (λ m. m.agrees) (searched ∙ ap (λ g. meaning_of_judgement (Ok (verdict g (count_wrong f a b)))) (every.1 r)),
   )
 
   differs : (place : Place) → ((m.agrees ≡ false ∷ []) × (m.place ≡ place)) ↔ FirstWrong w s a b place
@@ -103,7 +102,7 @@ module _ (w : Way) (s : Setting) (a b : Picture) (h : NoneApplies (picture_rules
       let t = first_place_means (is_wrong f a b) 0 a.width a.height _ _ failing passing place in (
         λ q. t.0 (differs_found first _ place searched q.0 q.1),
         λ p.
-            let said = searched ∙ ap (λ g. meaning_of_judgement (verdict g (count_wrong f a b))) (t.1 p) in
+            let said = searched ∙ ap (λ g. meaning_of_judgement (Ok (verdict g (count_wrong f a b)))) (t.1 p) in
             (ap (λ m. m.agrees) said, ap (λ m. m.place) said),
       )
 

@@ -1,4 +1,5 @@
 -- Demand 3: which settings are lossless, for every setting there is.
+use Rattle.std.specs.Prelude.{Option, Some, None, Ok}
 use mathlib.Core.Path.{◌≡◌, refl, sym, ap, ◌∙◌, subst}
 use mathlib.Core.Bool.{Bool, true, false, true≢false, not, cond}
 use mathlib.Core.List.{List, [], ◌∷◌}
@@ -10,18 +11,13 @@ use lib.Dec.{eqb}
 use Rattle.sample.specs.declared.Depths.{Depths}
 use Rattle.sample.proofs.Choices.{both_true}
 use Rattle.refusal.specs.Rules.{Rule, rule, first}
-use Rattle.refusal.specs.declared.Check.TheVariants.{Passed}
 use Rattle.refusal.proofs.RuleLaws.{passed_over}
 use Rattle.codes.specs.Edition.{edition_of}
 use Rattle.codes.specs.Matrix.{changed_places, ycgco_r, ycgco_re, ycgco_ro, matrix_of}
 use Rattle.codes.specs.Standing.{standing, entry_of}
 use Rattle.codes.specs.declared.edition.Edition.{Edition}
 use Rattle.codes.specs.declared.edition.Edition.TheVariants.{Of2021, Draft, Published}
-use Rattle.codes.specs.declared.matrix.Bond.{Bond}
-use Rattle.codes.specs.declared.matrix.Bond.TheVariants.{Bits}
 use Rattle.codes.specs.declared.matrix.Entry.{Entry}
-use Rattle.codes.specs.declared.matrix.Lossless.{Lossless}
-use Rattle.codes.specs.declared.matrix.Lossless.TheVariants.{From, Never}
 use Rattle.codes.specs.declared.matrix.Matrix.{Matrix}
 use Rattle.codes.specs.declared.matrix.Matrix.TheVariants as matrix
 use Rattle.codes.proofs.Table.{Each, rows, at_code}
@@ -37,26 +33,26 @@ use Rattle.promises.specs.Lossless.{Listed, change_places, is_ycgco_r, is_ycgco_
 
 -- ---- of the rules on a setting rule 11 alone asks for the call
 
-pass : (r : Rule) (a b : List Rule) → first (r ∷ a) ≡ Passed → (first a ≡ Passed → first b ≡ Passed) → first (r ∷ b) ≡ Passed
+pass : (r : Rule) (a b : List Rule) → first (r ∷ a) ≡ Ok tt → (first a ≡ Ok tt → first b ≡ Ok tt) → first (r ∷ b) ≡ Ok tt
 unfolding first
 pass r a b e f = let t = passed_over r a e in rw t.0 (f t.1)
 
-answered : (t : Bool) → t ≡ true → first (rule 11 (not t) ∷ []) ≡ Passed
+answered : (t : Bool) → t ≡ true → first (rule 11 (not t) ∷ []) ≡ Ok tt
 unfolding first
 answered true e = refl
 answered false e = absurd (true≢false (sym e))
 
-pub of_other_call : (c d : Call) (s : Setting) → first (setting_rules c s) ≡ Passed → answers d (entry s) (depths s) ≡ true → first (setting_rules d s) ≡ Passed
+pub of_other_call : (c d : Call) (s : Setting) → first (setting_rules c s) ≡ Ok tt → answers d (entry s) (depths s) ≡ true → first (setting_rules d s) ≡ Ok tt
 of_other_call c d s e t =
     pass _ _ _ e (λ e. pass _ _ _ e (λ e. pass _ _ _ e (λ e. pass _ _ _ e (λ e. pass _ _ _ e (λ e. pass _ _ _ e (λ e. pass _ _ _ e (λ e. pass _ _ _ e (λ e. answered _ t))))))))
 
 -- so what the image check takes is converted, either way
-pub converts_too : (w : Way) (s : Setting) → first (setting_rules ImageCheck s) ≡ Passed → first (setting_rules (Convert w) s) ≡ Passed
+pub converts_too : (w : Way) (s : Setting) → first (setting_rules ImageCheck s) ≡ Ok tt → first (setting_rules (Convert w) s) ≡ Ok tt
 converts_too w s e = of_other_call ImageCheck (Convert w) s e refl
 
 -- ---- what the image check takes is on the list
 
-module _ (s : Setting) (e : first (setting_rules ImageCheck s) ≡ Passed) where
+module _ (s : Setting) (e : first (setting_rules ImageCheck s) ≡ Ok tt) where
   abbrev d : Depths
   d = depths s
 
@@ -103,7 +99,7 @@ module _ (s : Setting) (e : first (setting_rules ImageCheck s) ≡ Passed) where
   on_ro : On (matrix.Served ycgco_ro)
   on_ro q l = is_ycgco_ro q
 
-  no_lossy : (x : Entry) → x.lossless ≡ Never → On (matrix.Served x)
+  no_lossy : (x : Entry) → x.lossless ≡ None → On (matrix.Served x)
   no_lossy x v q l = absurd (true≢false (sym (subst (λ k. keeps k d ≡ true) v l.kept)))
 
   no_reserved : On matrix.Reserved
@@ -123,22 +119,22 @@ module _ (s : Setting) (e : first (setting_rules ImageCheck s) ≡ Passed) where
 
 -- ---- what is on the list and converted is taken by the image check
 
-module _ (s : Setting) (e : first (setting_rules (Convert Forward) s) ≡ Passed) where
-  bits : (n : ℕ) (b : Bond) → b ≡ Bits n → bonded b (depths s) s.rgb_full s.ycc_full ≡ true → (depths s).luma.0 ≡ (depths s).rgb.0 + n
+module _ (s : Setting) (e : first (setting_rules (Convert Forward) s) ≡ Ok tt) where
+  bits : (n : ℕ) (b : Option ℕ) → b ≡ Some n → bonded b (depths s) s.rgb_full s.ycc_full ≡ true → (depths s).luma.0 ≡ (depths s).rgb.0 + n
   bits n b q h =
       let g = subst (λ c. bonded c (depths s) s.rgb_full s.ycc_full ≡ true) q h in
       eqb-true (depths s).luma.0 ((depths s).rgb.0 + n) (both_true (eqb (depths s).luma.0 ((depths s).rgb.0 + n)) _ g).0
 
   -- an entry that binds Y to so many bits more than RGB, and chroma to enough of them
-  keeps_all : (x : Entry) (bound least : ℕ) → entry s ≡ x → x.bond ≡ Bits bound → x.lossless ≡ From least
+  keeps_all : (x : Entry) (bound least : ℕ) → entry s ≡ x → x.bond ≡ Some bound → x.lossless ≡ Some least
       → ((depths s).luma.0 ≡ (depths s).rgb.0 + bound → (depths s).luma.0 ≤ (depths s).chroma.0 → (depths s).rgb.0 + least ≤ (depths s).chroma.0)
-      → first (setting_rules ImageCheck s) ≡ Passed
+      → first (setting_rules ImageCheck s) ≡ Ok tt
   keeps_all x bound least q b l enough =
       let h = enough (bits bound (entry s).bond (ap (λ y. y.bond) q ∙ b) (bonded_so (Convert Forward) s e)) (deeper (Convert Forward) s e).0 in
       of_other_call (Convert Forward) ImageCheck s e
       (subst (λ k. keeps k (depths s) ≡ true) (sym (ap (λ y. y.lossless) q ∙ l)) (le-leb ((depths s).rgb.0 + least) (depths s).chroma.0 h))
 
-  pub taken : Listed s → first (setting_rules ImageCheck s) ≡ Passed
+  pub taken : Listed s → first (setting_rules ImageCheck s) ≡ Ok tt
   taken (change_places q) = keeps_all changed_places 0 0 (ap entry_of q) refl refl (λ b c. omega arith)
   taken (is_ycgco_r q p) = keeps_all ycgco_r 0 1 (ap entry_of q) refl refl (λ b c. omega (arith, p))
   taken (is_ycgco_re q) = keeps_all ycgco_re 2 1 (ap entry_of q) refl refl (λ b c. omega arith)
@@ -146,14 +142,14 @@ module _ (s : Setting) (e : first (setting_rules (Convert Forward) s) ≡ Passed
 
 -- THE lossless settings: the image check takes a setting exactly if the forward call does and the setting is on the list
 pub lossless_exactly : (s : Setting)
-    → (first (setting_rules ImageCheck s) ≡ Passed) ↔ ((first (setting_rules (Convert Forward) s) ≡ Passed) × Listed s)
+    → (first (setting_rules ImageCheck s) ≡ Ok tt) ↔ ((first (setting_rules (Convert Forward) s) ≡ Ok tt) × Listed s)
 lossless_exactly s = (λ e. (converts_too Forward s e, listed s e), λ t. taken s t.0 t.1)
 
 -- ---- the list by its codes
 
-abbrev pub somewhere : Lossless → Bool
-somewhere (From n) = true
-somewhere Never = false
+abbrev pub somewhere : Option ℕ → Bool
+somewhere (Some n) = true
+somewhere None = false
 
 abbrev pub with_code : ℕ → Matrix → List (ℕ × Entry) → List (ℕ × Entry)
 with_code n (matrix.Served e) rest = cond (somewhere e.lossless) ((n, e) ∷ rest) rest

@@ -1,6 +1,7 @@
 -- The promises on a pixel and on a sample hold of the box's answers.
+use Rattle.std.specs.Prelude.{Ok, None}
 use mathlib.Core.Path.{◌≡◌, refl, sym, ap, ◌∙◌}
-use mathlib.Core.Bool.{Bool, true, false, true≢false, cond}
+use mathlib.Core.Bool.{Bool, true, false, true≢false}
 use mathlib.Core.List.{List, [], ◌∷◌}
 use mathlib.Core.Logic.{◌↔◌}
 use Prim.Native.Nat.{ℕ, ◌≤◌}
@@ -12,16 +13,13 @@ use Rattle.sample.specs.declared.Pixel.{Pixel}
 use Rattle.sample.proofs.Choices.{cannot}
 use Rattle.sample.proofs.DepthLaws.{powers}
 use Rattle.refusal.specs.Rules.{first, NoneApplies}
-use Rattle.refusal.specs.declared.Check.TheVariants.{Passed}
 use Rattle.setting.specs.Call.{reads}
 use Rattle.setting.specs.Rules.{depths, served, setting_rules}
 use Rattle.setting.specs.declared.Call.{Call}
 use Rattle.setting.specs.declared.Call.TheVariants as call
 use Rattle.setting.specs.declared.Setting.{Setting}
 use Rattle.setting.specs.declared.Way.{Way}
-use Rattle.setting.specs.declared.admission.Admission.TheVariants as admission
 use Rattle.setting.proofs.ReadyLaws.{ready, is_kept}
-use Rattle.scan.specs.declared.Bad.TheVariants.{Nothing}
 use Rattle.scan.specs.First.{first_bad}
 use Rattle.scan.proofs.Searches.{none_with}
 use Rattle.scan.proofs.SearchTheorems.{nothing_means}
@@ -35,13 +33,12 @@ use Rattle.admit.specs.Rules.{beyond_depth, pixel_picture, top_of, bad_one, pixe
 use Rattle.admit.proofs.Accepted.{Accepted, PixelAdmitted, pixel_admitted, inside_exactly}
 use Rattle.corkplover.specs.Answers.{converted_by, pixel_answer, source_by, source_answer, read_by, reading, levels_read_by, levels_answer}
 use Rattle.corkplover.specs.Meaning.{meaning_of_pixel, meaning_of_source, meaning_of_reading, meaning_of_levels}
-use Rattle.corkplover.specs.declared.pixels.SourceAnswer.TheVariants as source
 use Rattle.promises.specs.Pixels.{ConvertsPixel, ChecksPixel, ReadsSample, ReadsPixel, nearest_level}
 use Rattle.promises.proofs.Refusing.{none_admitted, none_accepted, accepted_none, pixel_refuses, source_refuses, reading_refuses, levels_refuses}
 
 -- a pixel that no rule refuses is let in: its setting is ready, and it lies within its depths
 module _ (c : Call) (s : Setting) (p : Pixel) (h : NoneApplies (pixel_rules c s p)) where
-  let_in : pixel_admission c s p ≡ admission.Admitted (served s)
+  let_in : pixel_admission c s p ≡ Ok (served s)
   let_in = none_admitted c s [] (beyond_depth (reads c) (depths s) (pixel_picture p)) h
 
   pub pixel_accepted : Accepted c s [] (beyond_depth (reads c) (depths s) (pixel_picture p))
@@ -51,12 +48,12 @@ module _ (c : Call) (s : Setting) (p : Pixel) (h : NoneApplies (pixel_rules c s 
   pixel_taken = pixel_admitted c s p (served s) let_in
 
 -- and one within the depths of a setting that is not refused meets no rule
-pub pixel_free : (c : Call) (s : Setting) (p : Pixel) → first (setting_rules c s) ≡ Passed → InsideOf (reads c) (depths s) p → NoneApplies (pixel_rules c s p)
+pub pixel_free : (c : Call) (s : Setting) (p : Pixel) → first (setting_rules c s) ≡ Ok tt → InsideOf (reads c) (depths s) p → NoneApplies (pixel_rules c s p)
 unfolding first
 pixel_free c s p e h =
     accepted_none c s [] (beyond_depth (reads c) (depths s) (pixel_picture p)) (record { setting = e; sizes_pass = refl; samples = no_bad })
   where
-    no_bad : beyond_depth (reads c) (depths s) (pixel_picture p) ≡ Nothing
+    no_bad : beyond_depth (reads c) (depths s) (pixel_picture p) ≡ None
     no_bad =
         (inside_exactly (reads c) (depths s) (pixel_picture p)).1
         (λ j i a b.
@@ -72,16 +69,12 @@ pixel_converts w s p =
 
 -- ---- the source check
 
-word_of : (b : Bool) → (meaning_of_source (cond b source.Yes source.NoSource)).source ≡ b ∷ []
-word_of true = refl
-word_of false = refl
-
 -- one word is one word
 pub same_word : {l : List Bool} {b c : Bool} → l ≡ b ∷ [] → l ≡ c ∷ [] → b ≡ c
 same_word e f = ap (λ l. get_or l 0 true) (sym e ∙ f)
 
 -- the test is the claim
-pub source_exactly : (s : Setting) (p : Pixel) → first (setting_rules call.ImageCheck s) ≡ Passed → InsideYCC (depths s) p
+pub source_exactly : (s : Setting) (p : Pixel) → first (setting_rules call.ImageCheck s) ≡ Ok tt → InsideYCC (depths s) p
     → (has_source (served s) p ≡ true) ↔ HasSource (served s) p
 source_exactly s p e h =
     let r = ready call.ImageCheck s e in
@@ -93,7 +86,7 @@ exactly_tested s p h = source_exactly s p (pixel_accepted call.ImageCheck s p h)
 source_says : (s : Setting) (p : Pixel) → NoneApplies (pixel_rules call.ImageCheck s p)
     → (meaning_of_source (source_answer s p)).source ≡ has_source (served s) p ∷ []
 unfolding source_answer
-source_says s p h = ap (λ v. (meaning_of_source (source_by p v)).source) (let_in call.ImageCheck s p h) ∙ word_of (has_source (served s) p)
+source_says s p h = ap (λ v. (meaning_of_source (source_by p v)).source) (let_in call.ImageCheck s p h)
 
 pub pixel_checks : (s : Setting) (p : Pixel) → ChecksPixel s p (meaning_of_source (source_answer s p))
 pixel_checks s p =
@@ -123,7 +116,7 @@ top_small kind.Cb d h g = largest_small d.chroma.0 g
 top_small kind.Cr d h g = largest_small d.chroma.0 g
 
 -- the level of a sample within its depth is rounded once
-level_is : (s : Setting) → first (setting_rules call.Meter s) ≡ Passed → (k : SampleKind) (v : ℕ) → v ≤ top_of k (depths s)
+level_is : (s : Setting) → first (setting_rules call.Meter s) ≡ Ok tt → (k : SampleKind) (v : ℕ) → v ≤ top_of k (depths s)
     → level_of k s.ycc_full (depths s).luma (depths s).chroma v ≡ nearest_level k (served s) v
 level_is s e k v h =
     let r = ready call.Meter s e in

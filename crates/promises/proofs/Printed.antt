@@ -1,10 +1,10 @@
 -- Demand 2 on the luma matrices: what the box converts by is the printed formulas, (42) to (44) and their solution, with the weights that
 -- the table of matrices gives the code.
+use Rattle.std.specs.Prelude.{Ok}
 use mathlib.Core.Path.{◌≡◌, ap, ◌∙◌, subst}
 use Prim.Native.Nat.{ℕ, ◌+◌, ◌<◌}
 use Rattle.sample.specs.declared.Pixel.{Pixel}
 use Rattle.refusal.specs.Rules.{first}
-use Rattle.refusal.specs.declared.Check.TheVariants.{Passed}
 use Rattle.levels.specs.Conversion.{LevelDepths, luma_forward, luma_reverse}
 use Rattle.levels.specs.Equations.{all_parts, weights, luma_matrix}
 use Rattle.levels.proofs.Bounds.{shares}
@@ -31,17 +31,17 @@ module _ (s : Setting) (kr kb : ℕ) (h : kr + kb < all_parts) (e : matrix_in s 
   formulas_are : (entry s).formulas ≡ Levels (luma_matrix (weights kr kb))
   formulas_are = ap (λ m. (entry_of m).formulas) e
 
-  depths_served_lem : (w : Way) → first (setting_rules (Convert w) s) ≡ Passed → LevelDepths (level_setting (served s))
+  depths_served_lem : (w : Way) → first (setting_rules (Convert w) s) ≡ Ok tt → LevelDepths (level_setting (served s))
   depths_served_lem w q = (subst (λ f. Agreed f (served s)) formulas_are (ready (Convert w) s q).agreed).1
 
-  pub printed_forward : first (setting_rules (Convert Forward) s) ≡ Passed → (p : Pixel)
+  pub printed_forward : first (setting_rules (Convert Forward) s) ≡ Ok tt → (p : Pixel)
       → convert Forward (served s) p ≡ luma_forward (weights kr kb) (level_setting (served s)) p
   unfolding convert
   printed_forward q p =
       ap (λ f. convert_by Forward f (served s) p) formulas_are
       ∙ luma_forward_lem (level_setting (served s)) (depths_served_lem Forward q) p (weights kr kb) (shares kr kb h)
 
-  pub printed_reverse : first (setting_rules (Convert Reverse) s) ≡ Passed → (p : Pixel)
+  pub printed_reverse : first (setting_rules (Convert Reverse) s) ≡ Ok tt → (p : Pixel)
       → convert Reverse (served s) p ≡ luma_reverse (weights kr kb) (level_setting (served s)) p
   unfolding convert
   printed_reverse q p =

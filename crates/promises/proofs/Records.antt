@@ -1,4 +1,5 @@
 -- The calls on colour records keep their promises.
+use Rattle.std.specs.Prelude.{Result, Ok, Err}
 use mathlib.Core.Path.{◌≡◌, refl, sym, ap, subst, ◌∙◌}
 use mathlib.Core.Bool.{Bool, true, false, true≢false, cond}
 use mathlib.Core.List.{List}
@@ -7,26 +8,23 @@ use Prim.Native.Nat.{ℕ, ◌+◌, ◌*◌, ◌/◌, ◌%◌, ◌-◌}
 use native.Mathlib.Omega.{arith}
 use lib.ListN.{length, take, length-drop, take-append-drop}
 use Rattle.refusal.specs.Rules.{first, numbered}
-use Rattle.refusal.specs.declared.Check.{Check}
-use Rattle.refusal.specs.declared.Check.TheVariants as check
 use Rattle.refusal.specs.declared.Refusal.{Refusal}
 use Rattle.refusal.proofs.RuleLaws.{EveryRule, first_has, never_both, refused_exactly, passed_exactly}
 use Rattle.tables.specs.Table.{zeros}
 use Rattle.nclx.specs.Record.{wrong_length, record_rules, label_in, Sound, read_by, label_read, record_of, write_rules, written_into}
 use Rattle.nclx.specs.Choice.{container_rules, choice_by, choice, last_seven, chosen_part, chosen_number}
 use Rattle.nclx.specs.declared.ColourLabel.{ColourLabel}
-use Rattle.nclx.specs.declared.LabelRead.TheVariants as read
-use Rattle.nclx.specs.declared.picking.Choice.{Choice}
-use Rattle.nclx.specs.declared.picking.Choice.TheVariants as choices
 use Rattle.nclx.proofs.ChoiceLaws.{container_passed, container_sound, stream_sound}
 use Rattle.nclx.proofs.TripLaws.{read_passed, written_reads, read_writes}
 use Rattle.promises.specs.Records.{ReadsRecord, WritesRecord, WritesInto, PicksRecord, EndOf, LendsPart}
+use Rattle.nclx.specs.declared.picking.Winner.{Winner}
+use Rattle.nclx.specs.declared.picking.Winner.TheVariants as winner
 
 -- ---- reading
 
-read_refused : (bytes : List ℕ) (c : Check) (x : Refusal) → (read_by bytes c ≡ read.Refused x) ↔ (c ≡ check.Refused x)
-read_refused bytes check.Passed x = (λ e. absurd (true≢false cc), λ e. absurd (never_both x e))
-read_refused bytes (check.Refused y) x = (λ e. cc, λ e. cc)
+read_refused : (bytes : List ℕ) (c : Result Unit Refusal) (x : Refusal) → (read_by bytes c ≡ Err x) ↔ (c ≡ Err x)
+read_refused bytes (Ok u) x = (λ e. absurd (true≢false cc), λ e. absurd (never_both x e))
+read_refused bytes (Err y) x = (λ e. cc, λ e. cc)
 
 -- a label is in its own record
 code_out : (code : ℕ) → code / 256 * 256 + code % 256 ≡ code
@@ -47,7 +45,7 @@ record_reads bytes =
       refused = λ x. (λ e. (refused_exactly (record_rules bytes) x).0 ((read_refused bytes c x).0 e), λ f. (read_refused bytes c x).1 ((refused_exactly (record_rules bytes) x).1 f));
       accepted = λ l. (
         λ e. ((passed_exactly (record_rules bytes)).0 (read_passed bytes c l e).0, read_writes bytes l e),
-        λ h. ap (read_by bytes) ((passed_exactly (record_rules bytes)).1 h.0) ∙ ap read.Label (ap label_in (sym h.1) ∙ label_out l),
+        λ h. ap (read_by bytes) ((passed_exactly (record_rules bytes)).1 h.0) ∙ ap Ok (ap label_in (sym h.1) ∙ label_out l),
       );
     }
 
@@ -58,11 +56,11 @@ record_writes l = record { whole = refl; comes_back = written_reads l }
 
 module _ (l : ColourLabel) (out : List ℕ) where
   -- by whether the buffer has another length
-  left_zeros : (b : Bool) (x : Refusal) → cond b (check.Refused (numbered 20)) check.Passed ≡ check.Refused x → cond b (zeros (length out)) (record_of l) ≡ zeros (length out)
+  left_zeros : (b : Bool) (x : Refusal) → ◌≡◌ {A = Result Unit Refusal} (cond b (Err (numbered 20)) (Ok tt)) (Err x) → cond b (zeros (length out)) (record_of l) ≡ zeros (length out)
   left_zeros true x e = refl
   left_zeros false x e = absurd (never_both x e)
 
-  left_record : (b : Bool) → cond b (check.Refused (numbered 20)) check.Passed ≡ check.Passed → cond b (zeros (length out)) (record_of l) ≡ record_of l
+  left_record : (b : Bool) → ◌≡◌ {A = Result Unit Refusal} (cond b (Err (numbered 20)) (Ok tt)) (Ok tt) → cond b (zeros (length out)) (record_of l) ≡ record_of l
   left_record true e = absurd (never_both _ (sym e))
   left_record false e = refl
 
@@ -78,18 +76,18 @@ module _ (l : ColourLabel) (out : List ℕ) where
 -- ---- choosing
 
 -- what a choice tells of the two checks that it was made by
-by_first : (a b : Check) → (choice_by a b ≡ choices.Container) ↔ (a ≡ check.Passed)
+by_first : (a b : Result Unit Refusal) → (choice_by a b ≡ Ok winner.Container) ↔ (a ≡ Ok tt)
 by_first a b = (container_passed a b, λ e. ap (λ z. choice_by z b) e)
 
-by_second : (a b : Check) → (choice_by a b ≡ choices.Stream) ↔ ((a ≡ check.Passed → ⊥) × (b ≡ check.Passed))
-by_second check.Passed b = (λ e. absurd (true≢false cc), λ h. absurd (h.0 refl))
-by_second (check.Refused x) check.Passed = (λ e. (λ f. never_both x (sym f), refl), λ h. refl)
-by_second (check.Refused x) (check.Refused y) = (λ e. absurd (true≢false cc), λ h. absurd (never_both y (sym h.1)))
+by_second : (a b : Result Unit Refusal) → (choice_by a b ≡ Ok winner.Stream) ↔ ((a ≡ Ok tt → ⊥) × (b ≡ Ok tt))
+by_second (Ok u) b = (λ e. absurd (true≢false cc), λ h. absurd (h.0 refl))
+by_second (Err x) (Ok u) = (λ e. (λ f. never_both x (sym f), refl), λ h. refl)
+by_second (Err x) (Err y) = (λ e. absurd (true≢false cc), λ h. absurd (never_both y (sym h.1)))
 
-by_neither : (a b : Check) (x : Refusal) → (choice_by a b ≡ choices.Refused x) ↔ ((a ≡ check.Refused x) × (b ≡ check.Passed → ⊥))
-by_neither check.Passed b x = (λ e. absurd (true≢false cc), λ h. absurd (never_both x h.0))
-by_neither (check.Refused y) check.Passed x = (λ e. absurd (true≢false cc), λ h. absurd (h.1 refl))
-by_neither (check.Refused y) (check.Refused z) x = (λ e. (cc, λ f. never_both z (sym f)), λ h. cc)
+by_neither : (a b : Result Unit Refusal) (x : Refusal) → (choice_by a b ≡ Err x) ↔ ((a ≡ Err x) × (b ≡ Ok tt → ⊥))
+by_neither (Ok u) b x = (λ e. absurd (true≢false cc), λ h. absurd (never_both x h.0))
+by_neither (Err y) (Ok u) x = (λ e. absurd (true≢false cc), λ h. absurd (h.1 refl))
+by_neither (Err y) (Err z) x = (λ e. (cc, λ f. never_both z (sym f)), λ h. cc)
 
 pub record_picks : (container stream : List ℕ) → PicksRecord container stream (choice container stream)
 unfolding choice
@@ -125,8 +123,8 @@ container_numbers : (bytes : List ℕ) → EveryRule NotNone (container_rules by
 container_numbers bytes = (λ e. omega arith, (λ e. omega arith, (λ e. omega arith, (λ e. omega arith, (λ e. omega arith, tt)))))
 
 module _ (container stream : List ℕ) where
-  lends_by : (c : Choice) → choice container stream ≡ c → LendsPart container stream c (chosen_part c container stream) (chosen_number c)
-  lends_by choices.Container e =
+  lends_by : (c : Result Winner Refusal) → choice container stream ≡ c → LendsPart container stream c (chosen_part c container stream) (chosen_number c)
+  lends_by (Ok winner.Container) e =
       let s = end_of container (container_sound container stream e) in
       record {
         of_container = λ _. (s, refl);
@@ -134,7 +132,7 @@ module _ (container stream : List ℕ) where
         of_neither = λ x f. absurd (true≢false cc);
         agree = (λ _. s.long, λ _. refl);
       }
-  lends_by choices.Stream e =
+  lends_by (Ok winner.Stream) e =
       let s = end_of stream (stream_sound container stream e) in
       record {
         of_container = λ f. absurd (true≢false cc);
@@ -142,7 +140,7 @@ module _ (container stream : List ℕ) where
         of_neither = λ x f. absurd (true≢false cc);
         agree = (λ _. s.long, λ _. refl);
       }
-  lends_by (choices.Refused x) e =
+  lends_by (Err x) e =
       let some = first_has NotNone (container_rules container) x (container_numbers container) ((refused_exactly (container_rules container) x).1 (((record_picks container stream).refused x).0 e).0) in
       record {
         of_container = λ f. absurd (true≢false cc);

@@ -1,4 +1,5 @@
 -- Demand 1 on refusals. It is shown once of any call's rules, and then read off the answer of each kind of call.
+use Rattle.std.specs.Prelude.{Result, Ok, Err, Option, Some, None}
 use mathlib.Core.Path.{◌≡◌, refl, sym, ap, ◌∙◌, subst}
 use mathlib.Core.Bool.{Bool, true, false, cond}
 use mathlib.Core.List.{List, [], ◌∷◌, ◌++◌}
@@ -9,8 +10,6 @@ use lib.Dec.{eqb}
 use Rattle.sample.specs.declared.Pixel.{Pixel}
 use Rattle.sample.specs.declared.Side.TheVariants.{Ycc}
 use Rattle.refusal.specs.Rules.{Rule, first, FirstIs, NoneApplies, nowhere, numbered}
-use Rattle.refusal.specs.declared.Check.{Check}
-use Rattle.refusal.specs.declared.Check.TheVariants as check
 use Rattle.refusal.specs.declared.Place.{Place}
 use Rattle.refusal.specs.declared.Refusal.{Refusal}
 use Rattle.refusal.proofs.RuleLaws.{EveryRule, first_has, never_both, same_refusal, refused_exactly, passed_exactly}
@@ -20,17 +19,11 @@ use Rattle.setting.specs.declared.Call.{Call}
 use Rattle.setting.specs.declared.Call.TheVariants as call
 use Rattle.setting.specs.declared.Setting.{Setting}
 use Rattle.setting.specs.declared.Way.{Way}
-use Rattle.setting.specs.declared.admission.Admission.{Admission}
-use Rattle.setting.specs.declared.admission.Admission.TheVariants as admission
 use Rattle.setting.specs.declared.admission.Served.{Served}
 use Rattle.meter.specs.declared.SampleKind.{SampleKind}
 use Rattle.scan.specs.First.{bad_rule}
 use Rattle.planes.specs.Picture.{Picture, layout_of}
 use Rattle.planes.specs.Sizes.{size_rules}
-use Rattle.scan.specs.declared.Bad.{Bad}
-use Rattle.scan.specs.declared.Bad.TheVariants as bads
-use Rattle.scan.specs.declared.Found.{Found}
-use Rattle.scan.specs.declared.Found.TheVariants as found
 use Rattle.planes.specs.declared.size.Layout.{Layout}
 use Rattle.plan.specs.Conversion.{convert}
 use Rattle.plan.specs.Source.{has_source}
@@ -42,7 +35,6 @@ use Rattle.image_check.specs.Image.{first_failing, answer_found, image_by, image
 use Rattle.judge.specs.Judge.{first_wrong, count_wrong, verdict, judge_by, judgement}
 use Rattle.corkplover.specs.Answers.{converted_by, pixel_answer, source_by, source_answer, read_by, reading, levels_read_by, levels_answer}
 use Rattle.corkplover.specs.Meaning.{Meaning, meaning_refusal, meaning_of_pixel, meaning_of_source, meaning_of_reading, meaning_of_levels, meaning_of_frame, meaning_of_image, meaning_of_judgement}
-use Rattle.corkplover.specs.declared.pixels.SourceAnswer.TheVariants as source
 use Rattle.promises.proofs.Beyond.{picture_beyond, sample_beyond}
 use Rattle.promises.specs.Refusing.{Exactly, NamesSample, Refuses, BadIn, BadPixel, BadSampleOf}
 
@@ -50,15 +42,15 @@ use Rattle.promises.specs.Refusing.{Exactly, NamesSample, Refuses, BadIn, BadPix
 abbrev Numbered : List Rule → Type 0
 Numbered rs = EveryRule (λ x. eqb x.number 0 ≡ false) rs
 
-not_zero : (rs : List Rule) (x : Refusal) → Numbered rs → first rs ≡ check.Refused x → x.number ≡ 0 → ⊥
+not_zero : (rs : List Rule) (x : Refusal) → Numbered rs → first rs ≡ Err x → x.number ≡ 0 → ⊥
 not_zero rs x h e q = eqb-false x.number 0 (first_has _ rs x h e) q
 
-all_numbered : (call : Call) (s : Setting) (sizes : List Rule) (bad : Bad) → Numbered sizes → Numbered (call_rules call s sizes bad)
+all_numbered : (call : Call) (s : Setting) (sizes : List Rule) (bad : Option (Place × ℕ)) → Numbered sizes → Numbered (call_rules call s sizes bad)
 all_numbered call s sizes bad h = (refl, (refl, (refl, (refl, (refl, (refl, (refl, (refl, (refl, rest sizes h)))))))))
   where
-    last : (f : Bad) → Numbered (bad_rule f ∷ [])
-    last (bads.At place v) = (refl, tt)
-    last bads.Nothing = (refl, tt)
+    last : (f : Option (Place × ℕ)) → Numbered (bad_rule f ∷ [])
+    last (Some b) = (refl, tt)
+    last None = (refl, tt)
 
     rest : (rs : List Rule) → Numbered rs → Numbered (rs ++ (bad_rule bad ∷ []))
     rest [] h = last bad
@@ -88,21 +80,21 @@ numbered_others [] h = tt
 numbered_others (r ∷ rs) h = (h.0.not_0, numbered_others rs h.1)
 
 -- what no rule refuses is let in
-pub none_admitted : (c : Call) (s : Setting) (sizes : List Rule) (bad : Bad) → NoneApplies (call_rules c s sizes bad)
-    → call_admission c s sizes bad ≡ admission.Admitted (served s)
+pub none_admitted : (c : Call) (s : Setting) (sizes : List Rule) (bad : Option (Place × ℕ)) → NoneApplies (call_rules c s sizes bad)
+    → call_admission c s sizes bad ≡ Ok (served s)
 unfolding call_admission
 none_admitted c s sizes bad h = ap (λ k. admitted k (served s)) ((passed_exactly _).1 h)
 
 -- and the refusal of the first rule that applies is given
-pub first_refused : (c : Call) (s : Setting) (sizes : List Rule) (bad : Bad) (r : Refusal) → FirstIs r (call_rules c s sizes bad)
-    → call_admission c s sizes bad ≡ admission.Refused r
+pub first_refused : (c : Call) (s : Setting) (sizes : List Rule) (bad : Option (Place × ℕ)) (r : Refusal) → FirstIs r (call_rules c s sizes bad)
+    → call_admission c s sizes bad ≡ Err r
 unfolding call_admission
 first_refused c s sizes bad r h = ap (λ k. admitted k (served s)) ((refused_exactly _ r).1 h)
 
-pub none_accepted : (c : Call) (s : Setting) (sizes : List Rule) (bad : Bad) → NoneApplies (call_rules c s sizes bad) → Accepted c s sizes bad
+pub none_accepted : (c : Call) (s : Setting) (sizes : List Rule) (bad : Option (Place × ℕ)) → NoneApplies (call_rules c s sizes bad) → Accepted c s sizes bad
 none_accepted c s sizes bad h = (accepted_of c s sizes bad (served s) (none_admitted c s sizes bad h)).0
 
-pub accepted_none : (c : Call) (s : Setting) (sizes : List Rule) (bad : Bad) → Accepted c s sizes bad → NoneApplies (call_rules c s sizes bad)
+pub accepted_none : (c : Call) (s : Setting) (sizes : List Rule) (bad : Option (Place × ℕ)) → Accepted c s sizes bad → NoneApplies (call_rules c s sizes bad)
 unfolding call_admission
 accepted_none c s sizes bad k = (passed_exactly _).0 (admitted_passed _ (served s) (served s) (of_accepted c s sizes bad k)).0
 
@@ -111,21 +103,21 @@ abbrev Unrefused : Meaning → Type 0
 Unrefused m = (m.number ≡ 0) × (m.bad ≡ 0)
 
 -- an answer that says of every refusal what it is, and of nothing else that it is one
-module _ (say : Admission → Meaning) (unrefused : (x : Served) → Unrefused (say (admission.Admitted x)))
-    (refuses : (r : Refusal) → say (admission.Refused r) ≡ meaning_refusal r)
+module _ (say : Result Served Refusal → Meaning) (unrefused : (x : Served) → Unrefused (say (Ok x)))
+    (refuses : (r : Refusal) → say (Err r) ≡ meaning_refusal r)
   where
-    free : (x : Served) → (say (admission.Admitted x)).number ≡ 0
+    free : (x : Served) → (say (Ok x)).number ≡ 0
     free x = (unrefused x).0
 
-    by_check : (rules : List Rule) (x : Served) → Numbered rules → (c : Check) → first rules ≡ c → Exactly (say (admitted c x)) rules
-    by_check rules x h check.Passed e =
+    by_check : (rules : List Rule) (x : Served) → Numbered rules → (c : Result Unit Refusal) → first rules ≡ c → Exactly (say (admitted c x)) rules
+    by_check rules x h (Ok tt) e =
         record {
           given = λ n. absurd (n (free x));
           only = λ y f. absurd (never_both y (sym e ∙ (refused_exactly rules y).1 f));
           accepted = λ n. (passed_exactly rules).0 e;
           free = λ n. free x;
         }
-    by_check rules x h (check.Refused r) e =
+    by_check rules x h (Err r) e =
         record {
           given = λ n. record { refusal = r; is_first = (refused_exactly rules r).0 e; is = refuses r };
           only = λ y f. refuses r ∙ ap meaning_refusal (same_refusal (sym e ∙ (refused_exactly rules y).1 f));
@@ -133,17 +125,17 @@ module _ (say : Admission → Meaning) (unrefused : (x : Served) → Unrefused (
           free = λ n. absurd (never_both r (sym ((passed_exactly rules).1 n) ∙ e));
         }
 
-    module _ (c : Call) (s : Setting) (sizes : List Rule) (h : EveryRule Other sizes) (bad : Bad) (Is : Place → ℕ → Type 0)
-        (means : (place : Place) (v : ℕ) → bad ≡ bads.At place v → Is place v)
+    module _ (c : Call) (s : Setting) (sizes : List Rule) (h : EveryRule Other sizes) (bad : Option (Place × ℕ)) (Is : Place → ℕ → Type 0)
+        (means : (place : Place) (v : ℕ) → bad ≡ Some (place, v) → Is place v)
       where
         answered : Exactly (say (call_admission c s sizes bad)) (call_rules c s sizes bad)
         unfolding call_admission
         answered = by_check (call_rules c s sizes bad) (served s) (all_numbered c s sizes bad (numbered_others sizes h)) _ refl
 
-        abbrev Names : Admission → Type 0
+        abbrev Names : Result Served Refusal → Type 0
         Names v = NamesSample Is (say v)
 
-        other_names : (r : Refusal) → Other r → Names (admission.Refused r)
+        other_names : (r : Refusal) → Other r → Names (Err r)
         other_names r o =
             subst (NamesSample Is) (sym (refuses r))
             (record {
@@ -178,19 +170,15 @@ module _ (say : Admission → Meaning) (unrefused : (x : Served) → Unrefused (
 
 -- ---- each kind of call
 
--- the source checks' word is no refusal
-picked_free : (b : Bool) → Unrefused (meaning_of_source (cond b source.Yes source.NoSource))
-picked_free true = (refl, refl)
-picked_free false = (refl, refl)
-
-found_free : (f : Found) → Unrefused (meaning_of_image (answer_found f))
-found_free (found.At place) = (refl, refl)
-found_free found.Nothing = (refl, refl)
+-- the image check's word is no refusal
+found_free : (f : Option Place) → Unrefused (meaning_of_image (answer_found f))
+found_free (Some place) = (refl, refl)
+found_free None = (refl, refl)
 
 -- nor is a verdict
-verdict_free : (f : Found) (n : ℕ) → Unrefused (meaning_of_judgement (verdict f n))
-verdict_free (found.At place) n = (refl, refl)
-verdict_free found.Nothing n = (refl, refl)
+verdict_free : (f : Option Place) (n : ℕ) → Unrefused (meaning_of_judgement (Ok (verdict f n)))
+verdict_free (Some place) n = (refl, refl)
+verdict_free None n = (refl, refl)
 
 pub pixel_refuses : (w : Way) (s : Setting) (p : Pixel)
     → Refuses (pixel_rules (call.Convert w) s p) (BadPixel (input_of w) s p) (meaning_of_pixel (pixel_answer w s p))
@@ -202,7 +190,7 @@ pixel_refuses w s p =
 pub source_refuses : (s : Setting) (p : Pixel) → Refuses (pixel_rules call.ImageCheck s p) (BadPixel Ycc s p) (meaning_of_source (source_answer s p))
 unfolding source_answer
 source_refuses s p =
-    call_refuses (λ v. meaning_of_source (source_by p v)) (λ x. picked_free (has_source x p)) (λ r. refl) call.ImageCheck s [] tt _ _
+    call_refuses (λ v. meaning_of_source (source_by p v)) (λ x. (refl, refl)) (λ r. refl) call.ImageCheck s [] tt _ _
     (picture_beyond Ycc s (pixel_picture p))
 
 pub reading_refuses : (k : SampleKind) (s : Setting) (v : ℕ) → Refuses (sample_rules k s v) (BadSampleOf k s v) (meaning_of_reading (reading k s v))

@@ -1,5 +1,6 @@
 -- What an exported call packs into one number comes out again, whole: what a caller from another language reads off it means what the answer
 -- means. So every promise on answers holds of exports too.
+use Rattle.std.specs.Prelude.{Result, Ok, Err, Option, Some, None}
 use mathlib.Core.Path.{◌≡◌, refl, sym, ap, ◌∙◌}
 use mathlib.Core.Bool.{Bool, true, false, true≢false, cond}
 use mathlib.Core.List.{List, [], ◌∷◌}
@@ -12,16 +13,11 @@ use Rattle.sample.specs.declared.Side.{Side}
 use Rattle.sample.specs.declared.Side.TheVariants.{Rgb, Ycc}
 use Rattle.sample.proofs.DepthLaws.{powers}
 use Rattle.refusal.specs.Rules.{Rule, first, bad_at, at}
-use Rattle.refusal.specs.declared.Check.TheVariants.{Passed}
 use Rattle.refusal.specs.declared.Place.{Place}
 use Rattle.refusal.specs.declared.Refusal.{Refusal}
 use Rattle.refusal.proofs.RuleLaws.{EveryRule, first_has}
 use Rattle.planes.specs.Picture.{Picture, layout_of}
 use Rattle.planes.specs.Sizes.{size_rules}
-use Rattle.scan.specs.declared.Bad.{Bad}
-use Rattle.scan.specs.declared.Bad.TheVariants as bads
-use Rattle.scan.specs.declared.Found.{Found}
-use Rattle.scan.specs.declared.Found.TheVariants as found
 use Rattle.planes.specs.declared.size.Layout.{Layout}
 use Rattle.scan.specs.First.{first_place, IsFirstPlace}
 use Rattle.scan.proofs.Searches.{first_place_means}
@@ -33,8 +29,6 @@ use Rattle.setting.specs.declared.Call.TheVariants as call
 use Rattle.setting.specs.declared.Setting.{Setting}
 use Rattle.setting.specs.declared.Way.{Way}
 use Rattle.setting.specs.declared.Way.TheVariants as way
-use Rattle.setting.specs.declared.admission.Admission.{Admission}
-use Rattle.setting.specs.declared.admission.Admission.TheVariants as admission
 use Rattle.setting.proofs.ReadyLaws.{ready}
 use Rattle.meter.specs.Level.{plane_number}
 use Rattle.meter.specs.declared.SampleKind.{SampleKind}
@@ -48,15 +42,14 @@ use Rattle.admit.proofs.AdmitLaws.{each_answer}
 use Rattle.frame.specs.Frame.{frame_by, frame_answer}
 use Rattle.image_check.specs.Image.{fails, first_failing, answer_found, image_by, image_answer}
 use Rattle.judge.specs.Judge.{is_wrong, first_wrong, count_wrong, verdict, judge_by, judgement}
-use Rattle.judge.specs.declared.Judgement.{Judgement}
-use Rattle.judge.specs.declared.Judgement.TheVariants as judgement
 use Rattle.corkplover.specs.Answers.{converted_by, pixel_answer, read_by, reading, levels_read_by, levels_answer}
 use Rattle.corkplover.specs.Meaning.{Meaning, refusal_in, meaning_refusal, meaning_samples, meaning_source, meaning_judged, meaning_unless, meaning_of_pixel, meaning_of_reading, meaning_of_levels, meaning_of_frame, meaning_of_image, meaning_of_judgement, meaning_in_pixel, meaning_in_reading, meaning_in_levels, meaning_in_frame, meaning_in_image, meaning_in_judgement}
 use Rattle.corkplover.specs.Packing.{packed, number_in, second_in, first_in, middle_in, packed_refusal, packed_pixel, packed_reading, level_in, packed_levels, y_in, cb_in, cr_in, packed_frame, packed_image, packed_judgement, wrong_in}
-use Rattle.corkplover.specs.declared.pixels.PixelAnswer.TheVariants.{Converted}
 use Rattle.promises.proofs.Fields.{fields}
 use Rattle.promises.proofs.Beyond.{picture_beyond, sample_beyond}
 use Rattle.promises.proofs.Refusing.{Other, setting_others, size_others}
+use Rattle.setting.specs.declared.admission.Served.{Served}
+use Rattle.judge.specs.declared.Difference.{Difference}
 
 -- a refusal that the fields have room for, and that is told from none by its number
 pub record Small (r : Refusal) : Type 0 where
@@ -95,13 +88,13 @@ refusal_out r m h = let t = refusal_back r h in refused_means _ m _ t.0 ∙ ap m
 
 -- ---- of any call: what is heard of it, and what it says
 
-module _ (heard say : Admission → Meaning) (c : Call) (s : Setting) (sizes : List Rule) (others : EveryRule Other sizes) (bad : Bad)
-    (refused : (r : Refusal) → Small r → heard (admission.Refused r) ≡ say (admission.Refused r))
-    (fit : first sizes ≡ Passed → (place : Place) (v : ℕ) → bad ≡ bads.At place v → Small (bad_at place v))
-    (served-out : Accepted c s sizes bad → heard (admission.Admitted (served s)) ≡ say (admission.Admitted (served s)))
+module _ (heard say : Result Served Refusal → Meaning) (c : Call) (s : Setting) (sizes : List Rule) (others : EveryRule Other sizes) (bad : Option (Place × ℕ))
+    (refused : (r : Refusal) → Small r → heard (Err r) ≡ say (Err r))
+    (fit : first sizes ≡ Ok tt → (place : Place) (v : ℕ) → bad ≡ Some (place, v) → Small (bad_at place v))
+    (served-out : Accepted c s sizes bad → heard (Ok (served s)) ≡ say (Ok (served s)))
   where
-    abbrev Out : Admission → Type 0
-    Out v = (v ≡ admission.Admitted (served s) → heard v ≡ say v) → heard v ≡ say v
+    abbrev Out : Result Served Refusal → Type 0
+    Out v = (v ≡ Ok (served s) → heard v ≡ say v) → heard v ≡ say v
 
     call_out : heard (call_admission c s sizes bad) ≡ say (call_admission c s sizes bad)
     call_out =
@@ -114,7 +107,7 @@ bad_small place v a b c = record { number_some = refl; number_small = omega arit
 
 -- ---- calls on a pixel or a sample
 
-bad_pixel : (side : Side) (s : Setting) (p : Pixel) (place : Place) (v : ℕ) → beyond_depth side (depths s) (pixel_picture p) ≡ bads.At place v
+bad_pixel : (side : Side) (s : Setting) (p : Pixel) (place : Place) (v : ℕ) → beyond_depth side (depths s) (pixel_picture p) ≡ Some (place, v)
     → Small (bad_at place v)
 bad_pixel side s p place v e =
     let b = (picture_beyond side s (pixel_picture p) place v e).first_bad in
@@ -124,13 +117,13 @@ bad_pixel side s p place v e =
 below : (d v : ℕ) → Depth d → v < 2 ^ d → v < 65536
 below d v h l = let p = powers d most_depth h.least h.most in omega arith
 
-samples_out : (q : Pixel) → q.p0 < 65536 → q.p1 < 65536 → meaning_in_pixel (packed_pixel (Converted q)) ≡ meaning_of_pixel (Converted q)
+samples_out : (q : Pixel) → q.p0 < 65536 → q.p1 < 65536 → meaning_in_pixel (packed_pixel (Ok q)) ≡ meaning_of_pixel (Ok q)
 samples_out q h k =
     let f = fields 0 0 q.p0 q.p1 q.p2 (omega arith) (omega arith) h k in
     free_means _ _ _ (ap (λ n. eqb n 0) f.number_out) ∙ (λ i. meaning_samples (f.first_out i ∷ f.middle_out i ∷ f.last_out i ∷ []))
 
 pixel_out : (w : Way) (s : Setting) (p : Pixel) → Accepted (call.Convert w) s [] (beyond_depth (input_of w) (depths s) (pixel_picture p))
-    → let q = convert w (served s) p in meaning_in_pixel (packed_pixel (Converted q)) ≡ meaning_of_pixel (Converted q)
+    → let q = convert w (served s) p in meaning_in_pixel (packed_pixel (Ok q)) ≡ meaning_of_pixel (Ok q)
 pixel_out way.Forward s p a =
     let r = ready (call.Convert way.Forward) s a.setting in
     let i = forward_inside (served s) p r ((inside_exactly Rgb (depths s) (pixel_picture p)).0 a.samples 0 0 (omega arith) (omega arith)) in
@@ -158,7 +151,7 @@ kind_small kind.Y = omega arith
 kind_small kind.Cb = omega arith
 kind_small kind.Cr = omega arith
 
-bad_one_lem : (k : SampleKind) (s : Setting) (v : ℕ) (place : Place) (w : ℕ) → bad_one k (depths s) v ≡ bads.At place w → Small (bad_at place w)
+bad_one_lem : (k : SampleKind) (s : Setting) (v : ℕ) (place : Place) (w : ℕ) → bad_one k (depths s) v ≡ Some (place, w) → Small (bad_at place w)
 bad_one_lem k s v place w e =
     let b = (sample_beyond k s v place w e).first_bad in
     bad_small place w (omega (arith, kind_small k, b.plane_is)) (omega (arith, b.row_inside)) (omega (arith, b.column_inside))
@@ -172,8 +165,8 @@ reading_unpacked k s v =
 
 -- ---- calls on a picture
 
-bad_in : (side : Side) (s : Setting) (a : Picture) (others : List Layout) → first (size_rules a.width a.height (layout_of a ∷ others)) ≡ Passed
-    → (place : Place) (v : ℕ) → beyond_depth side (depths s) a ≡ bads.At place v → Small (bad_at place v)
+bad_in : (side : Side) (s : Setting) (a : Picture) (others : List Layout) → first (size_rules a.width a.height (layout_of a ∷ others)) ≡ Ok tt
+    → (place : Place) (v : ℕ) → beyond_depth side (depths s) a ≡ Some (place, v) → Small (bad_at place v)
 bad_in side s a others z place v e =
     let sized = (sizes.fits _ _ _ z).0.sized in
     let b = (picture_beyond side s a place v e).first_bad in
@@ -187,7 +180,7 @@ frame_unpacked w s a b =
     (size_others a.width a.height (layout_of a ∷ b ∷ [])) _ (λ r. refusal_out r _) (bad_in (input_of w) s a (b ∷ [])) (λ k. refl)
 
 -- a row and a column of a picture of a served size, beside a word
-module _ (test : ℕ → ℕ → Bool) (width height : ℕ) (place : Place) (e : first_place test 0 width height ≡ found.At place) (h : height < 65536) (w : width < 65536) where
+module _ (test : ℕ → ℕ → Bool) (width height : ℕ) (place : Place) (e : first_place test 0 width height ≡ Some place) (h : height < 65536) (w : width < 65536) where
   inside : IsFirstPlace (λ j i. test j i ≡ true) (λ j i. test j i ≡ false) 0 width height place
   inside = (first_place_means test 0 width height _ _ (λ j i x y. (λ q. q, λ q. q)) (λ j i x y. (λ q. q, λ q. q)) place).0 e
 
@@ -199,10 +192,10 @@ module _ (test : ℕ → ℕ → Bool) (width height : ℕ) (place : Place) (e :
       ∙ (λ i. m (eqb (f.second_out i) 0) (at (sym inside.plane_is i) (f.first_out i) (f.middle_out i)))
 
 -- the image check's word: yes, or such a pixel
-word_out : (test : _) (a : Picture) (f : Found) → first_failing test a ≡ f → a.height < 65536 → a.width < 65536
+word_out : (test : _) (a : Picture) (f : Option Place) → first_failing test a ≡ f → a.height < 65536 → a.width < 65536
     → meaning_in_image (packed_image (answer_found f)) ≡ meaning_of_image (answer_found f)
-word_out test a (found.At place) e h w = place_out (fails test a) a.width a.height place e h w meaning_source
-word_out test a found.Nothing e h w = refl
+word_out test a (Some place) e h w = place_out (fails test a) a.width a.height place e h w meaning_source
+word_out test a None e h w = refl
 
 pub image_unpacked : (s : Setting) (a : Picture) → meaning_in_image (packed_image (image_answer s a)) ≡ meaning_of_image (image_answer s a)
 unfolding image_answer
@@ -214,10 +207,10 @@ image_unpacked s a =
     word_out (has_source (served s)) a (first_failing (has_source (served s)) a) refl (omega (arith, sized.height_within.to_most)) (omega (arith, sized.width_within.to_most)))
 
 -- and that of a judgement, with its count
-verdict_out : (f : Pixel → Pixel) (a b : Picture) (n : ℕ) (v : Found) → first_wrong f a b ≡ v → a.height < 65536 → a.width < 65536
-    → let r = verdict v n in meaning_in_judgement (packed_judgement r) (wrong_in r) ≡ meaning_of_judgement r
-verdict_out f a b n (found.At place) e h w = place_out (is_wrong f a b) a.width a.height place e h w (λ word p. meaning_judged word p n)
-verdict_out f a b n found.Nothing e h w = refl
+verdict_out : (f : Pixel → Pixel) (a b : Picture) (n : ℕ) (v : Option Place) → first_wrong f a b ≡ v → a.height < 65536 → a.width < 65536
+    → let r = Ok (verdict v n) in meaning_in_judgement (packed_judgement r) (wrong_in r) ≡ meaning_of_judgement r
+verdict_out f a b n (Some place) e h w = place_out (is_wrong f a b) a.width a.height place e h w (λ word p. meaning_judged word p n)
+verdict_out f a b n None e h w = refl
 
 pub judgement_unpacked : (w : Way) (s : Setting) (a b : Picture)
     → let r = judgement w s a b in meaning_in_judgement (packed_judgement r) (wrong_in r) ≡ meaning_of_judgement r
@@ -231,7 +224,7 @@ judgement_unpacked w s a b =
     verdict_out f a b (count_wrong f a b) (first_wrong f a b) refl (omega (arith, sized.height_within.to_most)) (omega (arith, sized.width_within.to_most)))
 
 -- what stands behind the pointer is the count, whatever is answered: of a refusal it is 0
-pub wrong_unpacked : (r : Judgement) → wrong_in r ≡ (meaning_of_judgement r).wrong
-wrong_unpacked judgement.Agrees = refl
-wrong_unpacked (judgement.Differs place n) = refl
-wrong_unpacked (judgement.Refused r) = refl
+pub wrong_unpacked : (r : Result (Option Difference) Refusal) → wrong_in r ≡ (meaning_of_judgement r).wrong
+wrong_unpacked (Ok None) = refl
+wrong_unpacked (Ok (Some d)) = refl
+wrong_unpacked (Err r) = refl

@@ -1,4 +1,5 @@
 -- What a call on colour records packs into one number comes out again.
+use Rattle.std.specs.Prelude.{Result, Ok, Err}
 use mathlib.Core.Path.{◌≡◌, refl, ap, ◌∙◌}
 use mathlib.Core.Bool.{cond}
 use mathlib.Core.List.{List}
@@ -8,15 +9,11 @@ use lib.Dec.{eqb}
 use Rattle.sample.specs.Flag.{one_if}
 use Rattle.sample.proofs.FlagLaws.{one_most, one_out}
 use Rattle.refusal.specs.Rules.{first}
-use Rattle.refusal.specs.declared.Check.{Check}
-use Rattle.refusal.specs.declared.Check.TheVariants as check
 use Rattle.refusal.specs.declared.Refusal.{Refusal}
 use Rattle.refusal.proofs.RuleLaws.{EveryRule, first_has}
 use Rattle.nclx.specs.Record.{record_rules, label_in, CodesFit, read_by, label_read, write_rules}
 use Rattle.nclx.specs.Choice.{container_rules, choice_by, choice}
 use Rattle.nclx.specs.declared.ColourLabel.{ColourLabel}
-use Rattle.nclx.specs.declared.LabelRead.TheVariants as read
-use Rattle.nclx.specs.declared.picking.Choice.TheVariants as choices
 use Rattle.nclx.proofs.RecordLaws.{sound}
 use Rattle.corkplover.specs.Meaning.{refusal_in}
 use Rattle.corkplover.specs.Packing.{number_in, packed_refusal}
@@ -40,18 +37,18 @@ record_others bytes = let a = container_others bytes in (a.0, (a.1.0, (a.1.1.0, 
 
 -- ---- a read
 
-label_unpacked : (l : ColourLabel) → CodesFit l → read_in (packed_read (read.Label l)) ≡ read.Label l
+label_unpacked : (l : ColourLabel) → CodesFit l → read_in (packed_read (Ok l)) ≡ Ok l
 label_unpacked l h =
     let p = h.primaries_fits in
     let t = h.transfer_fits in
     let small = one_most l.full in
     let f = fields 0 (one_if l.full) l.primaries l.transfer l.matrix (omega arith) (omega arith) (omega arith) (omega arith) in
     free_means _ _ _ (ap (λ n. eqb n 0) f.number_out)
-    ∙ (λ i. read.Label (label_from (f.first_out i) (f.middle_out i) (f.last_out i) ((ap (λ n. eqb n 1) f.second_out ∙ one_out l.full) i)))
+    ∙ (λ i. Ok (label_from (f.first_out i) (f.middle_out i) (f.last_out i) ((ap (λ n. eqb n 1) f.second_out ∙ one_out l.full) i)))
 
-read_by_lem : (bytes : List ℕ) (c : Check) → first (record_rules bytes) ≡ c → read_in (packed_read (read_by bytes c)) ≡ read_by bytes c
-read_by_lem bytes check.Passed e = label_unpacked (label_in bytes) (sound bytes e).codes
-read_by_lem bytes (check.Refused x) e = refusal_unpacked x (first_has Other (record_rules bytes) x (record_others bytes) e) _ read.Refused
+read_by_lem : (bytes : List ℕ) (c : Result Unit Refusal) → first (record_rules bytes) ≡ c → read_in (packed_read (read_by bytes c)) ≡ read_by bytes c
+read_by_lem bytes (Ok u) e = label_unpacked (label_in bytes) (sound bytes e).codes
+read_by_lem bytes (Err x) e = refusal_unpacked x (first_has Other (record_rules bytes) x (record_others bytes) e) _ Err
 
 pub read_unpacked : (bytes : List ℕ) → read_in (packed_read (label_read bytes)) ≡ label_read bytes
 unfolding label_read
@@ -59,19 +56,19 @@ read_unpacked bytes = read_by_lem bytes (first (record_rules bytes)) refl
 
 -- ---- a write
 
-write_by : (out : List ℕ) (c : Check) → first (write_rules out) ≡ c → check_in (packed_check c) ≡ c
-write_by out check.Passed e = refl
-write_by out (check.Refused x) e = refusal_unpacked x (first_has Other (write_rules out) x ((container_others out).0, tt) e) _ check.Refused
+write_by : (out : List ℕ) (c : Result Unit Refusal) → first (write_rules out) ≡ c → check_in (packed_check c) ≡ c
+write_by out (Ok u) e = refl
+write_by out (Err x) e = refusal_unpacked x (first_has Other (write_rules out) x ((container_others out).0, tt) e) _ Err
 
 pub write_unpacked : (out : List ℕ) → check_in (packed_check (first (write_rules out))) ≡ first (write_rules out)
 write_unpacked out = write_by out (first (write_rules out)) refl
 
 -- ---- a choice
 
-choice_by_lem : (container : List ℕ) (a b : Check) → first (container_rules container) ≡ a → choice_in (packed_choice (choice_by a b)) ≡ choice_by a b
-choice_by_lem container check.Passed b e = refl
-choice_by_lem container (check.Refused x) check.Passed e = refl
-choice_by_lem container (check.Refused x) (check.Refused y) e = refusal_unpacked x (first_has Other (container_rules container) x (container_others container) e) _ choices.Refused
+choice_by_lem : (container : List ℕ) (a b : Result Unit Refusal) → first (container_rules container) ≡ a → choice_in (packed_choice (choice_by a b)) ≡ choice_by a b
+choice_by_lem container (Ok u) b e = refl
+choice_by_lem container (Err x) (Ok u) e = refl
+choice_by_lem container (Err x) (Err y) e = refusal_unpacked x (first_has Other (container_rules container) x (container_others container) e) _ Err
 
 pub choice_unpacked : (container stream : List ℕ) → choice_in (packed_choice (choice container stream)) ≡ choice container stream
 unfolding choice

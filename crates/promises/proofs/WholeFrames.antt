@@ -1,4 +1,5 @@
 -- A frame worked out whole, and wrong boxes that give themselves away at it: each follows from the definitions by computation.
+use Rattle.std.specs.Prelude.{Ok, Err, Some, None}
 use mathlib.Core.Path.{◌≡◌, refl, ap}
 use mathlib.Core.Bool.{true, true≢false}
 use mathlib.Core.List.{List, [], ◌∷◌}
@@ -26,9 +27,7 @@ use Rattle.setting.specs.declared.Way.TheVariants.{Forward}
 use Rattle.planes.specs.Picture.{Picture, picture}
 use Rattle.admit.specs.Rules.{call_admission}
 use Rattle.frame.specs.Frame.{frame_answer, out_plane}
-use Rattle.frame.specs.declared.FrameAnswer.TheVariants.{Done, Refused}
 use Rattle.image_check.specs.Image.{image_answer}
-use Rattle.image_check.specs.declared.ImageAnswer.TheVariants.{Yes, NoSource}
 use Rattle.promises.proofs.Marked.{with}
 
 -- lossless code 8 at 8 bits
@@ -46,7 +45,7 @@ input = picture 2 1 3 (255 ∷ 0 ∷ 7 ∷ []) (0 ∷ 255 ∷ 7 ∷ []) (0 ∷ 0
 abbrev output : Layout
 output = layout 3 4 4 4
 
-pub whole_answer : frame_answer Forward setting input output ≡ Done
+pub whole_answer : frame_answer Forward setting input output ≡ Ok tt
 unfolding frame_answer call_admission first matrix_of labelled among depths_served agree are_depths is_depth at_most size_outside outside some_layout layout_short any_short bad_sample first_place place_in_row place_if first_of or_found
 whole_answer = refl
 
@@ -60,13 +59,13 @@ unfolding out_plane call_admission first matrix_of labelled among depths_served 
 refused_frame = refl
 
 -- a setting that is refused is, whatever the sizes are
-pub setting_before_sizes : frame_answer Forward (with 3 8 8 9 true true) (picture 0 0 0 [] [] []) (layout 0 0 0 0) ≡ Refused (numbered 1)
+pub setting_before_sizes : frame_answer Forward (with 3 8 8 9 true true) (picture 0 0 0 [] [] []) (layout 0 0 0 0) ≡ Err (numbered 1)
 unfolding frame_answer call_admission first matrix_of
 setting_before_sizes = refl
 
 -- of five bad samples in two planes and two rows the one of the lowest plane, in it of the lowest row, is named, with its own number
 pub first_bad_named : frame_answer Forward setting (picture 2 2 2 (0 ∷ 300 ∷ 301 ∷ 0 ∷ []) (302 ∷ 303 ∷ 0 ∷ 304 ∷ []) (0 ∷ 0 ∷ 0 ∷ 0 ∷ [])) (layout 2 4 4 4)
-    ≡ Refused (bad_at (at 0 0 1) 300)
+    ≡ Err (bad_at (at 0 0 1) 300)
 unfolding frame_answer call_admission first matrix_of labelled among depths_served agree are_depths is_depth at_most size_outside outside some_layout layout_short any_short bad_sample first_place place_in_row place_if first_of or_found
 first_bad_named = refl
 
@@ -82,11 +81,11 @@ tall_frame = refl
 abbrev one : ℕ → ℕ → ℕ → Picture
 one y cb cr = picture 1 1 1 (y ∷ []) (cb ∷ []) (cr ∷ [])
 
-pub red_picture_has_source : image_answer setting (one 63 129 511) ≡ Yes
+pub red_picture_has_source : image_answer setting (one 63 129 511) ≡ Ok None
 unfolding image_answer call_admission first matrix_of labelled among depths_served agree are_depths is_depth at_most size_outside outside some_layout layout_short any_short bad_sample first_place place_in_row place_if first_of or_found has_source convert lossless_forward lossless_reverse half clip sample
 red_picture_has_source = refl
 
-pub none_picture_has_source : image_answer setting (one 0 256 511) ≡ NoSource (at 0 0 0)
+pub none_picture_has_source : image_answer setting (one 0 256 511) ≡ Ok (Some (at 0 0 0))
 unfolding image_answer call_admission first matrix_of labelled among depths_served agree are_depths is_depth at_most size_outside outside some_layout layout_short any_short bad_sample first_place place_in_row place_if first_of or_found has_source convert lossless_forward lossless_reverse half clip sample
 none_picture_has_source = refl
 
@@ -97,7 +96,7 @@ abbrev element : ℕ → ℕ → List (List ℕ) → ℕ
 element k n planes = get_or (get_or planes k []) n 0
 
 -- refuses everything
-pub refuses_frames : (r : Refusal) → frame_answer Forward setting input output ≡ Refused r → ⊥
+pub refuses_frames : (r : Refusal) → frame_answer Forward setting input output ≡ Err r → ⊥
 refuses_frames r e = let f = whole_answer in true≢false cc
 
 -- one fixed colour: the same sample wherever the picture is
@@ -124,8 +123,8 @@ pub first_row_alone : element 0 1 (left setting tall (layout 1 2 2 2)) ≡ 0 →
 first_row_alone e = omega (arith, e, ap (element 0 1) tall_frame)
 
 -- an image check that always says yes, or never
-pub always_yes : image_answer setting (one 0 256 511) ≡ Yes → ⊥
+pub always_yes : image_answer setting (one 0 256 511) ≡ Ok None → ⊥
 always_yes e = let f = none_picture_has_source in true≢false cc
 
-pub never_yes : (p : Place) → image_answer setting (one 63 129 511) ≡ NoSource p → ⊥
+pub never_yes : (p : Place) → image_answer setting (one 63 129 511) ≡ Ok (Some p) → ⊥
 never_yes p e = let f = red_picture_has_source in true≢false cc

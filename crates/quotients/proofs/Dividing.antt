@@ -3,7 +3,7 @@ use mathlib.Core.Path.{◌≡◌, sym, ap, ◌∙◌}
 use Prim.Native.Nat.{ℕ, ◌+◌, ◌*◌, ◌-◌, ◌/◌, ◌≤◌}
 use native.Mathlib.Nat.{mul-add-div_right, div-div-eq-div-mul, le-div_iff_mul-le}
 use native.Mathlib.Omega.{arith}
-use Rattle.quotients.specs.Quotients.{parts}
+use Rattle.quotients.specs.Parts.{parts}
 
 -- whole parts, added to what is left of a number
 moved : (k x : ℕ) → (k * 4294967296 + x) / 4294967296 ≡ k + x / 4294967296

@@ -14,7 +14,7 @@ use Rattle.runs.specs.Light.{Follows}
 use Rattle.runs.specs.declared.Run.{Run}
 use Rattle.quotients.specs.Exact.{LumaExact, Shares}
 use Rattle.quotients.specs.Quotients.{nearest_sample, lowered_sample}
-use Rattle.quotients.specs.declared.Share.{Share}
+use Rattle.quotients.specs.declared.factors.Share.{Share}
 use Rattle.quotients.proofs.Dividing.{nearest_is, there, lowered_is}
 use Rattle.quotients.proofs.Exactness.{exact_is}
 use Rattle.quotients.proofs.Reaching.{parts_more}

@@ -1,26 +1,27 @@
 -- Quotients of runs whose factors are exact stand for their lines: the weights are taken `scale` times, and so is each number that a sample is made of.
-use mathlib.Core.Path.{◌≡◌, refl, sym, ap, subst, ◌∙◌}
+use mathlib.Core.Path.{◌≡◌, sym, ap, subst, ◌∙◌}
 use Prim.Native.Nat.{ℕ, ◌+◌, ◌*◌, ◌-◌, ◌/◌, ◌≤◌, ◌<◌}
-use native.Mathlib.Nat.{mul-le-mul_right, mul_assoc, div-mul-le_self, div-le_self, le-div_iff_mul-le}
+use native.Mathlib.Nat.{mul-le-mul_right, mul_assoc, div-mul-le_self, div-le_self}
 use native.Mathlib.Omega.{arith}
 use Rattle.sample.specs.Depth.{UpTo}
 use Rattle.sample.specs.declared.Pixel.{Pixel}
-use Rattle.levels.specs.Lines.{line_sample}
+use Rattle.levels.specs.Lines.{line_sample, lines_pixel}
 use Rattle.levels.specs.Room.{Room}
 use Rattle.levels.specs.declared.lines.Line.{Line}
 use Rattle.levels.specs.declared.lines.Lines.{Lines}
 use Rattle.runs.specs.Found.{RunsFound, PlaneRuns, Mixes}
-use Rattle.runs.specs.Light.{light_by, blue_by, red_by, mix_of}
+use Rattle.runs.specs.Light.{light_by, blue_by, red_by, mix_of, Weighs}
 use Rattle.runs.specs.declared.Run.{Run}
 use Rattle.runs.specs.declared.Runs.{Runs}
 use Rattle.runs.specs.declared.mix.Mix.{Mix}
 use Rattle.runs.proofs.Following.{in_bias}
 use Rattle.runs.proofs.Mixing.{bias_in, taken, weighs}
+use Rattle.quotients.specs.Parts.{parts}
 use Rattle.quotients.specs.Exact.{LumaExact, Testable, Shares}
-use Rattle.quotients.specs.Quotients.{nearest_sample, lowered_sample, QuotientsFit}
+use Rattle.quotients.specs.Quotients.{nearest_sample, lowered_sample}
 use Rattle.quotients.specs.Standing.{OneTop, Stands}
-use Rattle.quotients.specs.declared.Quotients.{Quotients}
-use Rattle.quotients.specs.declared.Share.{Share}
+use Rattle.quotients.specs.declared.factors.Quotients.{Quotients}
+use Rattle.quotients.specs.declared.factors.Share.{Share}
 use Rattle.quotients.proofs.Preparing.{luma_sample, share_sample}
 use Rattle.quotients.proofs.Reaching.{blue_least, blue_most, red_least, red_most}
 
@@ -37,16 +38,13 @@ module _ {lines : Lines} {r : Runs} (f : RunsFound lines r) where
   pub scale_in : scale ≤ 65535
   scale_in = div-le_self 65535 r.all
 
-  pub scale_some : 0 < scale
-  scale_some = let a = f.all_in in (le-div_iff_mul-le {k = r.all} {x = 1} {y = 65535} f.all_some).1 (omega arith)
-
   pub mixes : Mixes r scale
   mixes = record { sum = f.sum; bias_is = f.bias_is; all_in = div-mul-le_self 65535 r.all; most_in = f.most_in }
 
   pub bias_few : r.bias ≤ 65535 * 4095
   bias_few = let b = bias_in r.all r.most f.all_in f.most_in in let is = f.bias_is in omega arith
 
-  light_few : scale * r.bias ≤ 65535 * 4095
+  pub light_few : scale * r.bias ≤ 65535 * 4095
   light_few = let t = taken mixes in let b = t.bias_in in let e = t.bias in omega arith
 
   -- a weight at the largest sample is no more than the largest light
@@ -69,18 +67,32 @@ module _ {lines : Lines} {r : Runs} (f : RunsFound lines r) where
   module _ {luma top : ℕ} {blue red : Share} (one : OneTop lines top) (first : LumaExact r.luma scale r.bias luma)
       (second : Shares r.blue lines.second.line.mid scale r.bias (r.kb * r.most) blue)
       (third : Shares r.red lines.third.line.mid scale r.bias (r.kr * r.most) red) where
-    abbrev made : Mix → Quotients
-    made m = record { mix = m; luma = luma; blue = blue; red = red; top = top }
-
-    fits : QuotientsFit (made (mix_of r scale))
-    fits =
+    -- they have room
+    abbrev pub made : (m : Mix) → m ≡ mix_of r scale → Quotients
+    made m e =
         let l = light_few in
+        let b : blue.take ≤ parts blue.factor (scale * r.kb * r.most) = rw (mul_assoc scale r.kb r.most) second.there in
+        let c : red.take ≤ parts red.factor (scale * r.kr * r.most) = rw (mul_assoc scale r.kr r.most) third.there in
+        let back = sym e in
         record {
-          weighs = weighs mixes;
-          bias_in = omega arith;
+          mix = m;
+          luma = luma;
+          blue = blue;
+          red = red;
+          top = top;
+          weighs = subst Weighs back (weighs mixes);
+          bias_in = subst (λ m. 2 * m.bias < 1073741824) back (omega arith);
           top_in = let t = one.top_in in omega arith;
-          blue = rw (mul_assoc scale r.kb r.most) second.there;
-          red = rw (mul_assoc scale r.kr r.most) third.there;
+          blue_there = subst (λ m. blue.take ≤ parts blue.factor (m.kb * m.most)) back b;
+          red_there = subst (λ m. red.take ≤ parts red.factor (m.kr * m.most)) back c;
+        }
+
+    abbrev pixel_by : Mix → Pixel → Pixel
+    pixel_by m p =
+        record {
+          p0 = nearest_sample luma top (light_by m.kr m.kg m.kb p);
+          p1 = lowered_sample blue top (blue_by m.kr m.kg m.kb m.bias p);
+          p2 = lowered_sample red top (red_by m.kr m.kg m.kb m.bias p);
         }
 
     module _ (p : Pixel) (w : UpTo r.most p) where
@@ -114,8 +126,18 @@ module _ {lines : Lines} {r : Runs} (f : RunsFound lines r) where
           ∙ share_sample f.red.follows scale r.bias top one.third p w red third
           (red_least r.kr r.kg r.kb r.most r.bias bias_is p w) (red_most r.kr r.kg r.kb r.most r.bias bias_is p w)
 
-    stands : Stands lines (made (mix_of r scale))
-    stands = record { fits = fits; is = λ p w i. record { p0 = y_is p w i; p1 = cb_is p w i; p2 = cr_is p w i } }
+    once : (p : Pixel) → UpTo r.most p → pixel_by (mix_of r scale) p ≡ lines_pixel lines p
+    once p w i = record { p0 = y_is p w i; p1 = cb_is p w i; p2 = cr_is p w i }
 
-    pub stand : (m : Mix) → m ≡ mix_of r scale → Stands lines (made m) × (m.most ≡ r.most)
-    stand m e = subst (λ k. Stands lines (made k) × (k.most ≡ r.most)) (sym e) (stands, refl)
+  -- so whatever has those weights and such factors stands for the lines
+  pub stand : (k : Quotients) → k.mix ≡ mix_of r scale → OneTop lines k.top → LumaExact r.luma scale r.bias k.luma
+      → Shares r.blue lines.second.line.mid scale r.bias (r.kb * r.most) k.blue
+      → Shares r.red lines.third.line.mid scale r.bias (r.kr * r.most) k.red
+      → Stands lines k × (k.mix.most ≡ r.most)
+  stand k e one first second third = (
+    record {
+      fits = record { weighs = k.weighs; bias_in = k.bias_in; top_in = k.top_in; blue = k.blue_there; red = k.red_there };
+      is = subst (λ m. (p : Pixel) → UpTo m.most p → pixel_by one first second third m p ≡ lines_pixel lines p) (sym e) (once one first second third);
+    },
+    ap (λ m. m.most) e,
+  )

@@ -5,7 +5,7 @@ use native.Mathlib.Nat.{lt-div-mul-add, div-mul-le_self}
 use native.Mathlib.Omega.{arith}
 use Rattle.runs.specs.declared.Run.{Run}
 use Rattle.quotients.specs.Exact.{Even, LumaExact, ShareExact, Testable}
-use Rattle.quotients.specs.declared.Share.{Share}
+use Rattle.quotients.specs.declared.factors.Share.{Share}
 
 -- a quotient and one more is past the unit, by its divisor at the most
 pub record Past (d : ℕ) : Type 0 where

@@ -3,8 +3,8 @@
 use Rattle.std.specs.Prelude.{◌≡◌, ℕ, ◌+◌, ◌*◌, ◌-◌, ◌≤◌, ◌<◌}
 use Rattle.levels.specs.Conversion.{most_sample}
 use Rattle.runs.specs.declared.Run.{Run}
-use Rattle.quotients.specs.Quotients.{parts}
-use Rattle.quotients.specs.declared.Share.{Share}
+use Rattle.quotients.specs.Parts.{parts}
+use Rattle.quotients.specs.declared.factors.Share.{Share}
 
 pub record Even (r : Run) (e h : ℕ) : Type 0 where
   pub times_some : 0 < r.times

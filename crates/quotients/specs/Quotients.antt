@@ -2,12 +2,9 @@
 use Rattle.std.specs.Prelude.{ℕ, ◌+◌, ◌*◌, ◌-◌, ◌/◌, ◌^◌, ◌≤◌, ◌<◌, min}
 use Rattle.sample.specs.declared.Pixel.{Pixel}
 use Rattle.runs.specs.Light.{light_by, blue_by, red_by, Weighs}
-use Rattle.quotients.specs.declared.Quotients.{Quotients}
-use Rattle.quotients.specs.declared.Share.{Share}
-
--- parts of 2^32, which are left out
-abbrev pub parts : ℕ → ℕ → ℕ
-parts factor n = factor * n / 4294967296
+use Rattle.quotients.specs.Parts.{parts}
+use Rattle.quotients.specs.declared.factors.Quotients.{Quotients}
+use Rattle.quotients.specs.declared.factors.Share.{Share}
 
 -- Y: 32,768 parts are one, and a half is added
 abbrev pub nearest_sample : ℕ → ℕ → ℕ → ℕ

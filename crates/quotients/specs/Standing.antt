@@ -5,11 +5,8 @@ use Rattle.sample.specs.declared.Pixel.{Pixel}
 use Rattle.levels.specs.Conversion.{most_sample}
 use Rattle.levels.specs.Lines.{lines_pixel}
 use Rattle.levels.specs.declared.lines.Lines.{Lines}
-use Rattle.runs.specs.declared.Runs.{Runs}
 use Rattle.quotients.specs.Quotients.{quotients_pixel, QuotientsFit}
-use Rattle.quotients.specs.declared.Quotients.{Quotients}
-use Rattle.quotients.specs.declared.prepare.Answer.{Answer}
-use Rattle.quotients.specs.declared.prepare.Answer.TheVariants.{Made, Nothing}
+use Rattle.quotients.specs.declared.factors.Quotients.{Quotients}
 
 -- three planes with one largest sample, of which the first has no middle
 pub record OneTop (l : Lines) (top : ℕ) : Type 0 where
@@ -22,8 +19,3 @@ pub record OneTop (l : Lines) (top : ℕ) : Type 0 where
 pub record Stands (l : Lines) (k : Quotients) : Type 0 where
   pub fits : QuotientsFit k
   pub is : (p : Pixel) → UpTo k.mix.most p → quotients_pixel k p ≡ lines_pixel l p
-
--- what is made of runs stands for their lines, up to the same largest sample
-abbrev pub Answered : Lines → Runs → Answer → Type 0
-Answered l r (Made k) = Stands l k × (k.mix.most ≡ r.most)
-Answered l r Nothing = Unit

@@ -1,78 +1,44 @@
 // The quotients of three runs, once for many pixels. Runs of any other form, or without room, have none.
-ghost use Rattle.std.specs.Prelude.{◌<◌};
+ghost use Rattle.std.specs.Prelude.{◌≡◌, IfSome};
 ghost use Rattle.levels.specs.Room.{AllReady};
 ghost use Rattle.runs.specs.Found.{RunsFound};
-ghost use Rattle.quotients.specs.Standing.{OneTop, Answered};
+ghost use Rattle.quotients.specs.Standing.{OneTop, Stands};
 
-use crate::{Quotients, numbers};
+use crate::factors::Quotients;
+use crate::numbers;
 use levels::lines::Lines;
 use runs::{Runs, mix};
 
-#[derive(Clone, Copy)]
-pub enum Answer {
-    Made(Quotients),
-    Nothing,
-}
-
-// The largest sample of all three planes, if it is one and Y has no middle; else 0.
-fn one_top(lines: Lines) -> u16
+// The largest sample of all three planes, if it is one and Y has no middle.
+fn one_top(lines: Lines) -> Option<u16>
     requires { AllReady lines }
-    ensures { 0 < result → OneTop lines result }
+    ensures { IfSome result (λ top. OneTop lines top) }
 {
-    let first = lines.first;
-    let second = lines.second;
-    let third = lines.third;
-    let first = first.line;
-    let second = second.line;
-    let third = third.line;
-    let mid = first.mid;
+    let first = lines.first.line;
     let top = first.top;
-    if 0 < mid {
-        return 0;
+    if 0 < first.mid || lines.second.line.top != top || lines.third.line.top != top {
+        return None;
     }
-    if second.top != top {
-        return 0;
-    }
-    if third.top != top {
-        return 0;
-    }
-    top as u16
+    Some(top as u16)
 }
 
 // The quotients of three lines, whose runs were found. The weights are taken as often as 16 bits have room for.
-pub fn prepare(r: Runs, lines: Lines) -> Answer
+pub fn prepare(r: Runs, lines: Lines) -> Option<Quotients>
     requires all_ready { AllReady lines }
     requires runs_found { RunsFound lines r }
-    ensures { Answered lines r result }
+    ensures { IfSome result (λ k. Stands lines k × (k.mix.most ≡ r.most)) }
 {
-    let second = lines.second;
-    let third = lines.third;
-    let second = second.line;
-    let third = third.line;
-    let bias = r.bias;
+    let second = lines.second.line;
+    let third = lines.third.line;
     let most = r.most as u64;
     let scale = 65535 / r.all;
-    let top = one_top(lines);
-    let luma = numbers::luma_factor(r.luma, scale, bias);
-    let blue = numbers::share_of(r.blue, scale, bias, r.kb * most, second.mid);
-    let red = numbers::share_of(r.red, scale, bias, r.kr * most, third.mid);
-    if top < 1 {
-        return Answer::Nothing;
-    }
-    if luma < 1 {
-        return Answer::Nothing;
-    }
-    if blue.factor < 1 {
-        return Answer::Nothing;
-    }
-    if red.factor < 1 {
-        return Answer::Nothing;
-    }
-    let weights = mix::mix_of(r, scale);
-    let luma = luma as u32;
-    Answer::Made(Quotients {
-        mix: weights,
-        luma,
+    let top = one_top(lines)?;
+    let luma = numbers::luma_factor(r.luma, scale, r.bias)?;
+    let blue = numbers::share_of(r.blue, scale, r.bias, r.kb * most, second.mid)?;
+    let red = numbers::share_of(r.red, scale, r.bias, r.kr * most, third.mid)?;
+    Some(Quotients {
+        mix: mix::mix_of(r, scale),
+        luma: luma as u32,
         blue,
         red,
         top,

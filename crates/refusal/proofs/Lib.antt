@@ -1,2 +1,3 @@
--- Laws of lists of rules.
+-- Laws of lists of rules, and of a refusal that is passed on.
 pub mod RuleLaws
+pub mod Passed

@@ -1,7 +1,5 @@
 -- The refusals of a call are one list of rules, in the order in which they are tested. The first rule that applies gives the refusal.
-use Rattle.std.specs.Prelude.{Bool, true, false, cond, List, [], ◌∷◌, ℕ}
-use Rattle.refusal.specs.declared.Check.{Check}
-use Rattle.refusal.specs.declared.Check.TheVariants.{Passed, Refused}
+use Rattle.std.specs.Prelude.{Bool, true, false, cond, List, [], ◌∷◌, ℕ, Result, Ok, Err}
 use Rattle.refusal.specs.declared.Place.{Place}
 use Rattle.refusal.specs.declared.Refusal.{Refusal}
 
@@ -28,14 +26,14 @@ abbrev pub rule : ℕ → Bool → Rule
 rule n b = record { refusal = numbered n; applies = b }
 
 -- what a list of rules comes to
-unfoldable pub first : List Rule → Check
-first [] = Passed
-first (r ∷ rs) = cond r.applies (Refused r.refusal) (first rs)
+unfoldable pub first : List Rule → Result Unit Refusal
+first [] = Ok tt
+first (r ∷ rs) = cond r.applies (Err r.refusal) (first rs)
 
 -- what two lists come to, one after the other
-abbrev pub or_else : Check → Check → Check
-or_else Passed c = c
-or_else (Refused r) c = Refused r
+abbrev pub or_else : Result Unit Refusal → Result Unit Refusal → Result Unit Refusal
+or_else (Ok u) c = c
+or_else (Err r) c = Err r
 
 -- A rule with the refusal x applies, and no earlier one does.
 pub data FirstIs (x : Refusal) : List Rule → Type 0 where

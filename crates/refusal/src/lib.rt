@@ -27,17 +27,11 @@ impl Place {
 
 #[derive(Clone, Copy)]
 pub struct Refusal {
+    // the rules' own number, by which their lists (`rule`, specs/Rules.antt) and callers in C go: an enum would be turned back into it at each of these
     pub number: u8,
     pub place: Place,
     // what stands there
     pub sample: u16,
-}
-
-// What the rules of a call come to.
-#[derive(Clone, Copy)]
-pub enum Check {
-    Passed,
-    Refused(Refusal),
 }
 
 impl Refusal {

@@ -1,18 +1,17 @@
 // Reading the words of a request. Words 1 to 8 are the setting, and the samples follow it. Who asks has read what stands before them, and says
-// which edition is meant, which byte stands between words, and the names of the two ranges, narrow and full, with a blank between them.
-ghost use Rattle.std.specs.Prelude.{◌≡◌, ◌≤◌, ◌<◌, min};
-ghost use Rattle.request.specs.Form.{number_word, range_word, end_of_words, setting_words, pixel_words, expected_with, expected_before, expected_at, expected_sample, pixel_form, sample_form, label_form};
+// which edition is meant, which byte stands between words, and what the two ranges are called.
+ghost use Rattle.std.specs.Prelude.{◌≡◌, ◌≤◌, ◌<◌, IfOk};
+ghost use Rattle.request.specs.Form.{number_word, range_word, end_of_words, setting_words, pixel_words, pixel_read, sample_read, label_read, largest_byte, largest_sample, expected_with, expected_before, expected_at, expected_sample, expected_alone, expected_code, pixel_form, sample_form, label_form, place_of};
 
 use crate::Request;
 use codes::label::CodeKind;
 use meter::SampleKind;
 use sample::Pixel;
 use setting::{Call, Setting, Way};
-use text::reading;
-use text::reading::Number;
+use text::reading::Words;
 
 // What can be expected of a word.
-#[derive(Clone, Copy)]
+#[derive(Clone, Copy, PartialEq, Eq)]
 pub enum Expected {
     Verb,
     Primaries,
@@ -35,141 +34,106 @@ pub enum Expected {
     NoMore,
 }
 
-// What the words come to: a request, or the first word that isn't what was expected there, and what was.
+// The first word that isn't what was expected there, and what was.
 #[derive(Clone, Copy)]
-pub enum Asked {
-    For(Request),
-    Fault { word: u8, expected: Expected },
+pub struct Fault {
+    pub word: u8,
+    pub expected: Expected,
 }
 
-// No word is at fault.
-pub const CLEAR: u8 = 255;
+// What the word of a lone sample stands behind: the setting, or the word that names its kind.
+#[derive(Clone, Copy)]
+pub enum Behind {
+    Setting,
+    Kind,
+}
+
+// What the two ranges are called.
+#[derive(Clone, Copy)]
+pub struct RangeNames<'a> {
+    pub narrow: &'a [u8],
+    pub full: &'a [u8],
+}
 
 // The largest code or depth that a word may say, and the largest sample.
-pub const LARGEST_BYTE: u64 = 255;
+pub const LARGEST_BYTE: u64 = u8::MAX as u64;
 
-pub const LARGEST_SAMPLE: u64 = sample::PAST_SAMPLES - 1;
+pub const LARGEST_SAMPLE: u64 = u16::MAX as u64;
 
-// What one word stands for, or the setting's words or a pixel's, and the first word at fault among those that were read so far.
-#[derive(Clone, Copy)]
-pub struct ReadNumber {
-    pub value: u64,
-    pub fault: u8,
-}
-
-#[derive(Clone, Copy)]
-pub struct ReadSetting {
-    pub setting: Setting,
-    pub fault: u8,
-}
-
-#[derive(Clone, Copy)]
-struct ReadPixel {
-    pixel: Pixel,
-    fault: u8,
-}
-
-// The earlier of two faults.
-fn earlier(a: u8, b: u8) -> u8
-    ensures { result ≡ min a b }
+// Word n as a number from 0 to `most`, or n. So it is with all words below: a word that isn't what was expected is answered by its number.
+pub fn number_word(words: Words<'_>, n: u8, most: u64) -> Result<u64, u8>
+    ensures value { result ≡ number_word words.entry.gap words.entry.text.now n most }
+    ensures value_le_most { IfOk result (λ v. v ≤ most) }
 {
-    if a < b { a } else { b }
+    words.number(n, most).ok_or(n)
 }
 
-// Word n as a number from 0 to `most`.
-pub fn number_word(s: &[u8], gap: u8, n: u8, most: u64, fault: u8) -> ReadNumber
-    ensures value { result ≡ number_word gap s.now n most fault }
-    ensures value_le_most { result.value ≤ most }
+fn byte_word(words: Words<'_>, n: u8) -> Result<u8, u8>
+    ensures { result ≡ number_word words.entry.gap words.entry.text.now n largest_byte }
 {
-    match reading::number_at(s, gap, n, most) {
-        Number::Value(value) => ReadNumber { value, fault },
-        Number::Nothing => ReadNumber {
-            value: 0,
-            fault: earlier(fault, n),
-        },
-    }
+    Ok(number_word(words, n, LARGEST_BYTE)? as u8)
 }
 
-// Word n as the place of a range's name.
-fn range_word(s: &[u8], gap: u8, n: u8, ranges: &[u8], fault: u8) -> ReadNumber
-    ensures { result ≡ range_word gap s.now n ranges.now fault }
+fn sample_word(words: Words<'_>, n: u8) -> Result<u16, u8>
+    ensures { result ≡ number_word words.entry.gap words.entry.text.now n largest_sample }
 {
-    let place = reading::place_at(s, gap, n, ranges);
-    if place < 2 {
-        return ReadNumber {
-            value: place as u64,
-            fault,
-        };
-    }
-    ReadNumber {
-        value: 0,
-        fault: earlier(fault, n),
+    Ok(number_word(words, n, LARGEST_SAMPLE)? as u16)
+}
+
+// Word n as a range's name: whether it is full.
+#[tactic(auto, using(text::proofs::WordLaws::place_of_two))]
+fn range_word(words: Words<'_>, n: u8, ranges: RangeNames<'_>) -> Result<bool, u8>
+    ensures { result ≡ range_word words.entry.gap words.entry.text.now n ranges.entry.narrow.now ranges.entry.full.now }
+{
+    let word = words.word(n);
+    if word == ranges.narrow {
+        Ok(false)
+    } else if word == ranges.full {
+        Ok(true)
+    } else {
+        Err(n)
     }
 }
 
 // The words must have ended before word n.
-fn end_of_words(s: &[u8], gap: u8, n: u8, fault: u8) -> u8
-    ensures { result ≡ end_of_words gap s.now n fault }
+fn end_of_words(words: Words<'_>, n: u8) -> Result<(), u8>
+    ensures { result ≡ end_of_words words.entry.gap words.entry.text.now n }
 {
-    if reading::has_word(s, gap, n) {
-        earlier(fault, n)
-    } else {
-        fault
-    }
+    if words.has_word(n) { Err(n) } else { Ok(()) }
 }
 
-pub fn setting_words(edition: u8, s: &[u8], gap: u8, ranges: &[u8]) -> ReadSetting
-    ensures { result ≡ setting_words edition gap s.now ranges.now }
+#[tactic(auto, unfolding(crate::specs::Form::setting_words))]
+pub fn setting_words(edition: u8, words: Words<'_>, ranges: RangeNames<'_>) -> Result<Setting, u8>
+    ensures { result ≡ setting_words edition words.entry.gap words.entry.text.now ranges.entry.narrow.now ranges.entry.full.now }
 {
-    let primaries = number_word(s, gap, 1, LARGEST_BYTE, CLEAR);
-    let transfer = number_word(s, gap, 2, LARGEST_BYTE, primaries.fault);
-    let matrix = number_word(s, gap, 3, LARGEST_BYTE, transfer.fault);
-    let rgb_depth = number_word(s, gap, 4, LARGEST_BYTE, matrix.fault);
-    let y_depth = number_word(s, gap, 5, LARGEST_BYTE, rgb_depth.fault);
-    let c_depth = number_word(s, gap, 6, LARGEST_BYTE, y_depth.fault);
-    let rgb_range = range_word(s, gap, 7, ranges, c_depth.fault);
-    let ycc_range = range_word(s, gap, 8, ranges, rgb_range.fault);
-    let setting = Setting {
-        primaries: primaries.value as u8,
-        transfer: transfer.value as u8,
-        matrix: matrix.value as u8,
-        rgb_depth: rgb_depth.value as u8,
-        y_depth: y_depth.value as u8,
-        c_depth: c_depth.value as u8,
-        rgb_full: rgb_range.value == 1,
-        ycc_full: ycc_range.value == 1,
+    Ok(Setting {
+        primaries: byte_word(words, 1)?,
+        transfer: byte_word(words, 2)?,
+        matrix: byte_word(words, 3)?,
+        rgb_depth: byte_word(words, 4)?,
+        y_depth: byte_word(words, 5)?,
+        c_depth: byte_word(words, 6)?,
+        rgb_full: range_word(words, 7, ranges)?,
+        ycc_full: range_word(words, 8, ranges)?,
         edition,
-    };
-    ReadSetting {
-        setting,
-        fault: ycc_range.fault,
-    }
+    })
 }
 
-fn pixel_words(s: &[u8], gap: u8, fault: u8) -> ReadPixel
-    ensures { result ≡ pixel_words gap s.now fault }
+#[tactic(auto, unfolding(crate::specs::Form::pixel_words))]
+fn pixel_words(words: Words<'_>) -> Result<Pixel, u8>
+    ensures { result ≡ pixel_words words.entry.gap words.entry.text.now }
 {
-    let a = number_word(s, gap, 9, LARGEST_SAMPLE, fault);
-    let b = number_word(s, gap, 10, LARGEST_SAMPLE, a.fault);
-    let c = number_word(s, gap, 11, LARGEST_SAMPLE, b.fault);
-    let pixel = Pixel {
-        p0: a.value as u16,
-        p1: b.value as u16,
-        p2: c.value as u16,
-    };
-    ReadPixel {
-        pixel,
-        fault: c.fault,
-    }
+    Ok(Pixel {
+        p0: sample_word(words, 9)?,
+        p1: sample_word(words, 10)?,
+        p2: sample_word(words, 11)?,
+    })
 }
 
 // What was expected of a word where these are words 9 to 11.
 fn expected_with(a: Expected, b: Expected, c: Expected, n: u8) -> Expected
     ensures { result ≡ expected_with a b c n }
 {
-    if 11 < n {
-        return Expected::NoMore;
-    }
     let words = [
         Expected::Verb,
         Expected::Primaries,
@@ -184,7 +148,10 @@ fn expected_with(a: Expected, b: Expected, c: Expected, n: u8) -> Expected
         b,
         c,
     ];
-    words[n as usize]
+    words
+        .get(usize::from(n))
+        .copied()
+        .unwrap_or(Expected::NoMore)
 }
 
 // What was expected of a word where the samples are those that a conversion reads.
@@ -218,62 +185,105 @@ fn expected_sample(kind: SampleKind) -> Expected
     }
 }
 
-// A setting and three samples.
-pub fn pixel_form(call: Call, edition: u8, s: &[u8], gap: u8, ranges: &[u8]) -> Asked
-    ensures { result ≡ pixel_form call edition gap s.now ranges.now }
+// What was expected of a word of a lone sample's request, where the sample is word n.
+fn expected_alone(kind: SampleKind, n: u8, word: u8) -> Expected
+    ensures { result ≡ expected_alone kind n word }
 {
-    let w = setting_words(edition, s, gap, ranges);
-    let p = pixel_words(s, gap, w.fault);
-    let word = end_of_words(s, gap, 12, p.fault);
-    if word == CLEAR {
-        let setting = w.setting;
-        let pixel = p.pixel;
-        return Asked::For(Request::Pixel(call, setting, pixel));
+    if word == n {
+        expected_sample(kind)
+    } else {
+        expected_with(Expected::NoMore, Expected::NoMore, Expected::NoMore, word)
     }
-    let expected = expected_at(call, word);
-    Asked::Fault { word, expected }
+}
+
+// A setting and three samples.
+fn pixel_read(
+    call: Call,
+    edition: u8,
+    words: Words<'_>,
+    ranges: RangeNames<'_>,
+) -> Result<Request, u8>
+    ensures { result ≡ pixel_read call edition words.entry.gap words.entry.text.now ranges.entry.narrow.now ranges.entry.full.now }
+{
+    let setting = setting_words(edition, words, ranges)?;
+    let pixel = pixel_words(words)?;
+    end_of_words(words, 12)?;
+    Ok(Request::Pixel(call, setting, pixel))
 }
 
 // A setting and one sample, which is word n.
-pub fn sample_form(kind: SampleKind, edition: u8, s: &[u8], gap: u8, ranges: &[u8], n: u8) -> Asked
+fn sample_read(
+    kind: SampleKind,
+    edition: u8,
+    words: Words<'_>,
+    ranges: RangeNames<'_>,
+    n: u8,
+) -> Result<Request, u8>
     requires { n < 254 }
-    ensures { result ≡ sample_form kind edition gap s.now ranges.now n }
+    ensures { result ≡ sample_read kind edition words.entry.gap words.entry.text.now ranges.entry.narrow.now ranges.entry.full.now n }
 {
-    let w = setting_words(edition, s, gap, ranges);
-    let v = number_word(s, gap, n, LARGEST_SAMPLE, w.fault);
-    let word = end_of_words(s, gap, n + 1, v.fault);
-    if word == CLEAR {
-        let setting = w.setting;
-        let value = v.value as u16;
-        return Asked::For(Request::Sample(kind, setting, value));
-    }
-    if word == n {
-        let expected = expected_sample(kind);
-        return Asked::Fault { word, expected };
-    }
-    let expected = expected_with(Expected::NoMore, Expected::NoMore, Expected::NoMore, word);
-    Asked::Fault { word, expected }
+    let setting = setting_words(edition, words, ranges)?;
+    let value = sample_word(words, n)?;
+    end_of_words(words, n + 1)?;
+    Ok(Request::Sample(kind, setting, value))
 }
 
 // One code, which is word n.
-pub fn label_form(kind: CodeKind, edition: u8, s: &[u8], gap: u8, n: u8) -> Asked
+fn label_read(kind: CodeKind, edition: u8, words: Words<'_>, n: u8) -> Result<Request, u8>
     requires { n < 254 }
-    ensures { result ≡ label_form kind edition gap s.now n }
+    ensures { result ≡ label_read kind edition words.entry.gap words.entry.text.now n }
 {
-    let v = number_word(s, gap, n, LARGEST_BYTE, CLEAR);
-    let word = end_of_words(s, gap, n + 1, v.fault);
-    if word == CLEAR {
-        let code = v.value as u8;
-        return Asked::For(Request::Label(kind, edition, code));
-    }
-    if word == n {
-        return Asked::Fault {
-            word,
-            expected: Expected::Code,
-        };
-    }
-    Asked::Fault {
+    let code = byte_word(words, n)?;
+    end_of_words(words, n + 1)?;
+    Ok(Request::Label(kind, edition, code))
+}
+
+// A request about a pixel.
+pub fn pixel_form(
+    call: Call,
+    edition: u8,
+    words: Words<'_>,
+    ranges: RangeNames<'_>,
+) -> Result<Request, Fault>
+    ensures { result ≡ pixel_form call edition words.entry.gap words.entry.text.now ranges.entry.narrow.now ranges.entry.full.now }
+{
+    pixel_read(call, edition, words, ranges).map_err(|word| Fault {
         word,
-        expected: Expected::NoMore,
-    }
+        expected: expected_at(call, word),
+    })
+}
+
+// A request about one sample.
+pub fn sample_form(
+    kind: SampleKind,
+    edition: u8,
+    words: Words<'_>,
+    ranges: RangeNames<'_>,
+    behind: Behind,
+) -> Result<Request, Fault>
+    ensures { result ≡ sample_form kind edition words.entry.gap words.entry.text.now ranges.entry.narrow.now ranges.entry.full.now (place_of behind) }
+{
+    let n = match behind {
+        Behind::Setting => 9,
+        Behind::Kind => 10,
+    };
+    sample_read(kind, edition, words, ranges, n).map_err(|word| Fault {
+        word,
+        expected: expected_alone(kind, n, word),
+    })
+}
+
+// A request about one code, which is word n.
+pub fn label_form(kind: CodeKind, edition: u8, words: Words<'_>, n: u8) -> Result<Request, Fault>
+    requires { n < 254 }
+    ensures { result ≡ label_form kind edition words.entry.gap words.entry.text.now n }
+{
+    label_read(kind, edition, words, n).map_err(|word| Fault {
+        word,
+        expected: if word == n {
+            Expected::Code
+        } else {
+            Expected::NoMore
+        },
+    })
 }

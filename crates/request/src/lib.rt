@@ -5,7 +5,6 @@ pub mod form;
 
 use codes::label::{CodeKind, Label};
 use meter::SampleKind;
-use refusal::Refusal;
 use sample::Pixel;
 use setting::{Call, Setting, Way};
 
@@ -19,7 +18,7 @@ pub enum Request {
     Label(CodeKind, u8, u8),
 }
 
-// Samples come with the way that made them, a level as its bits.
+// What is answered, where nothing is refused. Samples come with the way that made them, a level as its bits.
 #[derive(Clone, Copy)]
 pub enum Answer {
     Samples(Way, Pixel),
@@ -27,5 +26,4 @@ pub enum Answer {
     Level(u32),
     Levels(u32, u32, u32),
     Label(Label),
-    Refused(Refusal),
 }

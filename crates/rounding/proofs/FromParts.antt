@@ -73,12 +73,6 @@ clip_of top {z} r = clip_holds top z r.plus r.minus r.holds
 pub clip_within : (top n : ℕ) {z : ℤ} (r : Parts z) → n + r.minus ≡ r.plus → n ≤ top → clip top z ≡ n
 clip_within top n r e l = let is = clip_of top r in omega arith
 
-pub clip_low : (top : ℕ) {z : ℤ} (r : Parts z) → r.plus ≤ r.minus → clip top z ≡ 0
-clip_low top r l = let is = clip_of top r in omega arith
-
-pub clip_high : (top : ℕ) {z : ℤ} (r : Parts z) → top + r.minus ≤ r.plus → clip top z ≡ top
-clip_high top r l = let is = clip_of top r in omega arith
-
 pub clip_most : (top : ℕ) (z : ℤ) → clip top z ≤ top
 unfolding clip
 clip_most top (pos n) = omega arith

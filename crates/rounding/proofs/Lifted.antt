@@ -8,7 +8,7 @@ use native.Mathlib.Omega.{arith}
 use lib.Dec.{ltb}
 use lib.IntN.{pos, ◌+ℤ◌, ◌-ℤ◌}
 use borrow.Author.Tests.{lt-ltb, le-ltb}
-use Rattle.sample.specs.Flag.{one_if}
+use Rattle.std.specs.Int.{from_bool}
 use Rattle.sample.proofs.Choices.{below_or_not}
 use Rattle.rounding.specs.Rounding.{round, clip}
 use Rattle.rounding.proofs.Rounding.{gap, nearest, from_zero, below_zero}
@@ -99,11 +99,11 @@ module _ {p q d g e m lift : ℕ} (v : Lifted p q d g e m lift) where
     downward f = let b = rounds_down f in let is = below_zero p q d mid top f in omega arith
 
     -- and where the code takes the one away by a test of it
-    pub by_side : {less : ℕ} → less ≡ one_if (ltb p q) → min ((m - less) / e - low) top ≡ clip top (round (pos p -ℤ pos q) d +ℤ pos mid)
+    pub by_side : {less : ℕ} → less ≡ from_bool (ltb p q) → min ((m - less) / e - low) top ≡ clip top (round (pos p -ℤ pos q) d +ℤ pos mid)
     by_side {less} is =
         ⊎_elim
-        (λ (f : p < q). rw (is ∙ ap one_if (lt-ltb p q f)) (downward f))
-        (λ (f : q ≤ p). let none : m - less ≡ m = omega (arith, is ∙ ap one_if (le-ltb p q f)) in rw none (upward f))
+        (λ (f : p < q). rw (is ∙ ap from_bool (lt-ltb p q f)) (downward f))
+        (λ (f : q ≤ p). let none : m - less ≡ m = omega (arith, is ∙ ap from_bool (le-ltb p q f)) in rw none (upward f))
         (below_or_not p q)
 
     -- (m - 1) / e below the lift: the line is below zero

@@ -2,7 +2,7 @@
 use mathlib.Core.Path.{◌≡◌, sym, ap, ◌∙◌}
 use mathlib.Core.Bool.{Bool, true, false, cond}
 use Prim.Native.Nat.{ℕ, ◌+◌, ◌*◌, ◌-◌, ◌/◌, ◌^◌, ◌≤◌, ◌<◌, min}
-use native.Mathlib.Nat.{add-mul, mul_assoc, mul_left_comm, mul_right_comm, mul-le-mul_left, mul-le-mul_right, lt_of_mul-lt-mul_right, le-mul_of_pos_right, div-mul-le_self, le-div_iff_mul-le, div-lt_iff_lt-mul, lt-div-mul-add}
+use native.Mathlib.Nat.{add-mul, mul_assoc, mul_left_comm, mul_right_comm, mul-le-mul_left, mul-le-mul_right, lt_of_mul-lt-mul_right, div-mul-le_self, div-lt_iff_lt-mul, lt-div-mul-add}
 use native.Mathlib.Omega.{arith}
 use lib.Arith.{digits_div}
 use lib.Dec.{ltb}
@@ -38,18 +38,6 @@ quotient_is n d q r h e l =
     let is : n / d ≡ q = ap (λ x. x / d) (sym e) ∙ digits_div q l in
     let small : n / d < past_samples = (div-lt_iff_lt-mul {k = d} {x = n} {y = past_samples} (omega arith)).1 (omega arith) in
     omega arith
-
-pub quotient_large : (n d : ℕ) → 0 < d → d ≤ n / past_samples → past_samples ≡ min (n / d) past_samples
-quotient_large n d s h =
-    let large : past_samples ≤ n / d = (le-div_iff_mul-le {k = d} {x = past_samples} {y = n} s).1 (omega arith) in
-    omega arith
-
--- one more, where the divisor is left over
-pub one_more : (n d q r : ℕ) → q * d + r ≡ n → d ≤ r → (q + 1) * d + (r - d) ≡ n
-one_more n d q r e l = let more = add-mul q 1 d in omega arith
-
-pub one_more_low : (n d q r : ℕ) → 0 < d → q * d + r ≡ n → d ≤ r → q + 1 ≤ n
-one_more_low n d q r s e l = let low = le-mul_of_pos_right q s in omega arith
 
 -- what stands for a divisor: c over d in steps of p, rounded up before and down after
 stands_low : (c d p : ℕ) → 0 < d → 0 < p → c / ((d - 1) / p + 1) * d ≤ c * p

@@ -7,12 +7,11 @@ pub fn common(a: u64, b: u64) -> u64
     requires { 0 < a }
     ensures { Common a b result }
 {
+    // A while loop: Euclid's steps go by what is left over, and no index counts them.
     let mut x = a;
     let mut y = b;
-    while 0 < y {
-        let rest = x % y;
-        x = y;
-        y = rest;
+    while y != 0 {
+        (x, y) = (y, x % y);
     }
     x
 }

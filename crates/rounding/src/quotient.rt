@@ -4,7 +4,8 @@ ghost use Rattle.std.specs.Prelude.{◌≡◌, ◌/◌, ◌<◌, min};
 ghost use Rattle.sample.specs.Depth.{past_samples};
 ghost use Rattle.rounding.specs.Quotient.{shift_of, divisor_of, Divides};
 
-// A divisor, and 2^48 over its leading bits: `shift` says how many others there are.
+// A divisor, and 2^48 over its leading bits: `shift` says how many others there are. `Divides` is no ghost field, since the definition `divisor_of`
+// makes one of any number.
 #[derive(Clone, Copy)]
 pub struct Divisor {
     pub over: u64,
@@ -13,19 +14,19 @@ pub struct Divisor {
 }
 
 // How many bits to leave out, so that 20 to 30 stay.
+#[tactic(auto, unfolding(crate::specs::Quotient::shift_of))]
 fn shift_of(over: u64) -> u64
     ensures { result ≡ shift_of over }
 {
-    if over < 1073741824 {
-        return 0;
+    if over < 1 << 30 {
+        0
+    } else if over < 1 << 40 {
+        10
+    } else if over < 1 << 50 {
+        20
+    } else {
+        30
     }
-    if over < 1099511627776 {
-        return 10;
-    }
-    if over < 1125899906842624 {
-        return 20;
-    }
-    30
 }
 
 // What stands for a divisor.
@@ -35,7 +36,7 @@ pub fn divisor_of(over: u64) -> Divisor
 {
     let shift = shift_of(over);
     let leading = ((over - 1) >> shift) + 1;
-    let factor = 281474976710656 / leading;
+    let factor = (1 << 48) / leading;
     Divisor {
         over,
         shift,
@@ -48,17 +49,14 @@ pub fn quotient(n: u64, by: Divisor) -> u64
     requires { Divides by }
     ensures { result ≡ min (n / by.over) past_samples }
 {
-    let over = by.over;
-    let shift = by.shift;
-    let factor = by.factor;
-    let past = n / sample::PAST_SAMPLES;
-    if over <= past {
+    if by.over <= n / sample::PAST_SAMPLES {
         return sample::PAST_SAMPLES;
     }
-    let mut found = ((n >> shift) * factor) >> 48;
-    let mut rest = n - found * over;
-    while over <= rest {
-        rest -= over;
+    let mut found = ((n >> by.shift) * by.factor) >> 48;
+    let mut rest = n - found * by.over;
+    // A while loop: a step or none corrects what was found, and rest / over would be the division that is left out here.
+    while by.over <= rest {
+        rest -= by.over;
         found += 1;
     }
     found

@@ -1,7 +1,7 @@
 // A plan for many pixels: what takes some time to prepare and makes each pixel cheap. It does what the plan of the conversion does.
 #![tactic(auto)]
 
-ghost use Rattle.std.specs.Prelude.{◌≡◌, ◌≤◌};
+ghost use Rattle.std.specs.Prelude.{◌≡◌, ◌≤◌, IfSome};
 ghost use Rattle.levels.specs.Conversion.{most_sample};
 ghost use Rattle.levels.specs.Room.{AllReady};
 ghost use Rattle.setting.specs.Call.{input_of};
@@ -11,13 +11,13 @@ ghost use Rattle.runs.specs.Found.{RunsFound};
 ghost use Rattle.plan.specs.Conversion.{convert};
 ghost use Rattle.row_plan.specs.RowPlan.{MostRead, RowsOf, RowPlans};
 
-use fixed::words::{Prepared, Words};
+use fixed::words::Words;
 use levels::lines::Lines;
-use light::Light;
+use light::scaled::Light;
 use plan::Plan;
-use quotients::Quotients;
-use runs::{Found, Runs};
-use sample::{Depths, larger};
+use quotients::factors::Quotients;
+use runs::Runs;
+use sample::Depths;
 use setting::admission::Served;
 use setting::{Call, Way};
 
@@ -31,7 +31,7 @@ pub enum RowPlan {
     Words(WordPlanes),
 }
 
-// The words of three lines, by plane.
+// The words of three lines, by plane: names and no array, as in `Lines`.
 #[derive(Clone, Copy)]
 pub struct WordPlanes {
     pub first: Words,
@@ -45,35 +45,35 @@ fn most_read(way: Way, d: Depths) -> u16
     ensures { MostRead (input_of way) d result }
 {
     let tops = d.tops(setting::reads(Call::Convert(way)));
-    let first = tops.p0;
-    let second = tops.p1;
-    let third = tops.p2;
-    larger(first, larger(second, third))
+    tops.p0.max(tops.p1).max(tops.p2)
 }
 
-// Level lines by the words of each, if all have some.
+// The words of each line, if all have some.
+fn words_of(lines: Lines, most: u16) -> Option<WordPlanes>
+    requires all_ready { AllReady lines }
+    requires most_le_most_sample { most ≤ most_sample }
+    ensures { IfSome result (λ w. RowsOf lines most (RowPlan.Words w)) }
+{
+    let first = fixed::words::words_of(lines.first.line, most)?;
+    let second = fixed::words::words_of(lines.second.line, most)?;
+    let third = fixed::words::words_of(lines.third.line, most)?;
+    Some(WordPlanes {
+        first,
+        second,
+        third,
+    })
+}
+
+// Level lines by those words, or as they are.
 fn word_lines(lines: Lines, most: u16) -> RowPlan
     requires all_ready { AllReady lines }
     requires most_le_most_sample { most ≤ most_sample }
     ensures { RowsOf lines most result }
 {
-    let line0 = lines.first;
-    let line1 = lines.second;
-    let line2 = lines.third;
-    let Prepared::Made(first) = fixed::words::words_of(line0.line, most) else {
-        return RowPlan::Plan(Plan::Lines(lines));
-    };
-    let Prepared::Made(second) = fixed::words::words_of(line1.line, most) else {
-        return RowPlan::Plan(Plan::Lines(lines));
-    };
-    let Prepared::Made(third) = fixed::words::words_of(line2.line, most) else {
-        return RowPlan::Plan(Plan::Lines(lines));
-    };
-    RowPlan::Words(WordPlanes {
-        first,
-        second,
-        third,
-    })
+    match words_of(lines, most) {
+        Some(words) => RowPlan::Words(words),
+        None => RowPlan::Plan(Plan::Lines(lines)),
+    }
 }
 
 // The lines of a luma matrix, forward.
@@ -83,12 +83,12 @@ fn light_lines(r: Runs, lines: Lines, most: u16) -> RowPlan
     requires runs_found { RunsFound lines r × (r.most ≡ most) }
     ensures { RowsOf lines most result }
 {
-    if let quotients::prepare::Answer::Made(quotients) = quotients::prepare::prepare(r, lines) {
+    if let Some(quotients) = quotients::prepare::prepare(r, lines) {
         return RowPlan::Quotients(quotients);
     }
     match light::prepare::prepare(r, lines) {
-        light::prepare::Answer::Made(light) => RowPlan::Light(light),
-        light::prepare::Answer::Nothing => word_lines(lines, most),
+        Some(light) => RowPlan::Light(light),
+        None => word_lines(lines, most),
     }
 }
 
@@ -101,8 +101,8 @@ fn quick_lines(lines: Lines, most: u16) -> RowPlan
         return RowPlan::Plan(Plan::Lines(lines));
     }
     match runs::runs_of(lines, most) {
-        Found::Made(runs) => light_lines(runs, lines, most),
-        Found::Nothing => word_lines(lines, most),
+        Some(runs) => light_lines(runs, lines, most),
+        None => word_lines(lines, most),
     }
 }
 
@@ -111,10 +111,9 @@ pub fn plan_rows(way: Way, s: Served) -> RowPlan
     requires { Ready s }
     ensures { RowPlans (convert way s) (input_of way) s.depths result }
 {
-    let depths = s.depths;
     let plan = plan::plan_of(way, s);
     let Plan::Lines(lines) = plan else {
         return RowPlan::Plan(plan);
     };
-    quick_lines(lines, most_read(way, depths))
+    quick_lines(lines, most_read(way, s.depths))
 }

@@ -1,5 +1,4 @@
 -- Laws of lines that run with the light.
-pub mod Dividing
 pub mod Following
 pub mod Mixing
 pub mod Finding

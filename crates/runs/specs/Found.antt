@@ -6,12 +6,15 @@ use Rattle.levels.specs.declared.equations.Equation.{Equation}
 use Rattle.levels.specs.declared.lines.Line.{Line}
 use Rattle.levels.specs.declared.lines.Lines.{Lines}
 use Rattle.runs.specs.Light.{light_by, blue_by, red_by, Follows}
-use Rattle.runs.specs.declared.Found.{Found}
-use Rattle.runs.specs.declared.Found.TheVariants.{Made, Nothing}
 use Rattle.runs.specs.declared.Run.{Run}
 use Rattle.runs.specs.declared.Runs.{Runs}
 use Rattle.runs.specs.declared.line.Colour.{Colour}
 use Rattle.runs.specs.declared.weights.Weights.{Weights}
+
+-- an equation whose weights have room in a sum, those that add and those that take away
+pub record SumsFit (w : Equation) : Type 0 where
+  pub up_in : w.up0 + w.up1 + w.up2 < 2 ^ 62
+  pub down_in : w.down0 + w.down1 + w.down2 < 2 ^ 62
 
 -- an equation that only adds, by weights that sum to `all`
 pub record Weighed (w : Equation) (k : Weights) : Type 0 where
@@ -72,7 +75,3 @@ pub record RunsFound (l : Lines) (r : Runs) : Type 0 where
   pub red : PlaneRuns l.third.line r.most (red_by r.kr r.kg r.kb r.bias) r.red
   pub blue_start : r.blue.start ≡ r.bias
   pub red_start : r.red.start ≡ r.bias
-
-abbrev pub Answered : Lines → ℕ → Found → Type 0
-Answered l most (Made r) = RunsFound l r × (r.most ≡ most)
-Answered l most Nothing = Unit

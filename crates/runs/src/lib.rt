@@ -6,10 +6,10 @@ mod line;
 pub mod mix;
 mod weights;
 
-ghost use Rattle.std.specs.Prelude.{◌≤◌};
+ghost use Rattle.std.specs.Prelude.{◌≡◌, ◌≤◌, IfSome};
 ghost use Rattle.levels.specs.Conversion.{most_sample};
 ghost use Rattle.levels.specs.Room.{AllReady};
-ghost use Rattle.runs.specs.Found.{Answered};
+ghost use Rattle.runs.specs.Found.{RunsFound};
 
 use levels::lines::Lines;
 
@@ -36,42 +36,21 @@ pub struct Runs {
     pub red: Run,
 }
 
-#[derive(Clone, Copy)]
-pub enum Found {
-    Made(Runs),
-    Nothing,
-}
-
 // The runs of three lines, for samples up to `most`. Lines of any other form than a luma matrix's forward ones have none.
-pub fn runs_of(lines: Lines, most: u16) -> Found
+pub fn runs_of(lines: Lines, most: u16) -> Option<Runs>
     requires all_ready { AllReady lines }
     requires most_le_most_sample { most ≤ most_sample }
-    ensures { Answered lines most result }
+    ensures { IfSome result (λ r. RunsFound lines r × (r.most ≡ most)) }
 {
-    let first = lines.first;
-    let second = lines.second;
-    let third = lines.third;
-    let first = first.line;
-    let second = second.line;
-    let third = third.line;
-    let k = weights::weights_of(first.equation);
-    if k.times < 1 {
-        return Found::Nothing;
-    }
+    let first = lines.first.line;
+    let second = lines.second.line;
+    let third = lines.third.line;
+    let k = weights::weights_of(first.equation)?;
     let bias = k.all * (most as u64);
-    let luma = line::luma_run(first, k.times);
-    let blue = line::colour_run(line::blue_of(second.equation), k.kr, k.kg, bias, second);
-    let red = line::colour_run(line::red_of(third.equation), k.kg, k.kb, bias, third);
-    if luma.times < 1 {
-        return Found::Nothing;
-    }
-    if blue.times < 1 {
-        return Found::Nothing;
-    }
-    if red.times < 1 {
-        return Found::Nothing;
-    }
-    Found::Made(Runs {
+    let luma = line::luma_run(first, k.times)?;
+    let blue = line::colour_run(line::blue_of(second.equation), k.kr, k.kg, bias, second)?;
+    let red = line::colour_run(line::red_of(third.equation), k.kg, k.kb, bias, third)?;
+    Some(Runs {
         kr: k.kr,
         kg: k.kg,
         kb: k.kb,

@@ -23,7 +23,6 @@ pub fn mix_of(r: Runs, scale: u64) -> Mix
     requires { Mixes r scale }
     ensures { result ≡ mix_of r scale }
 {
-    let most = r.most;
     let kr = (scale * r.kr) as u16;
     let kg = (scale * r.kg) as u16;
     let kb = (scale * r.kb) as u16;
@@ -34,7 +33,7 @@ pub fn mix_of(r: Runs, scale: u64) -> Mix
         kg,
         kb,
         all,
-        most,
+        most: r.most,
         bias,
     }
 }
@@ -46,13 +45,7 @@ pub fn light_of(by: Mix, p: Pixel) -> u32
     ensures value { result ≡ light_by by.kr by.kg by.kb p }
     ensures upper_bound { result ≤ by.bias }
 {
-    let kr = by.kr as u32;
-    let kg = by.kg as u32;
-    let kb = by.kb as u32;
-    let r = p.p0 as u32;
-    let g = p.p1 as u32;
-    let b = p.p2 as u32;
-    kr * r + kg * g + kb * b
+    (by.kr as u32) * (p.p0 as u32) + (by.kg as u32) * (p.p1 as u32) + (by.kb as u32) * (p.p2 as u32)
 }
 
 // How far a colour is from the light, with the largest light added. What the light leaves of that is the same for two colours.
@@ -63,8 +56,5 @@ pub fn away(by: Mix, v: u16, light: u32) -> u32
     ensures value { result ≡ by.all * v + by.bias - light }
     ensures upper_bound { result ≤ 2 * by.bias }
 {
-    let all = by.all as u32;
-    let bias = by.bias;
-    let v = v as u32;
-    all * v + (bias - light)
+    (by.all as u32) * (v as u32) + (by.bias - light)
 }

@@ -1,6 +1,6 @@
 // The weights of a luma matrix, read off the equation of Y by dividing, and tested.
-ghost use Rattle.std.specs.Prelude.{◌≡◌, ◌+◌, ◌^◌, ◌<◌};
-ghost use Rattle.runs.specs.Found.{Weighed};
+ghost use Rattle.std.specs.Prelude.{◌<◌, IfSome};
+ghost use Rattle.runs.specs.Found.{SumsFit, Weighed};
 
 use levels::equations::Equation;
 use rounding::common::common;
@@ -15,47 +15,32 @@ pub struct Weights {
     pub times: u64,
 }
 
-fn no_weights() -> Weights
-    ensures { result.times ≡ 0 }
+// The weights of an equation, if it only adds and 16 bits have room for them.
+pub(crate) fn weights_of(w: Equation) -> Option<Weights>
+    requires { SumsFit w }
+    ensures weighed { IfSome result (λ k. Weighed w k) }
+    ensures times_nonzero { IfSome result (λ k. 0 < k.times) }
 {
-    Weights {
-        kr: 0,
-        kg: 0,
-        kb: 0,
-        all: 0,
-        times: 0,
+    if w.up0 == 0 {
+        return None;
     }
-}
-
-// The weights of an equation that only adds.
-pub(crate) fn weights_of(w: Equation) -> Weights
-    requires up2_bound { w.up0 + w.up1 + w.up2 < 2 ^ 62 }
-    requires down2_bound { w.down0 + w.down1 + w.down2 < 2 ^ 62 }
-    ensures { 0 < result.times → Weighed w result }
-{
-    let up0 = w.up0;
-    let up1 = w.up1;
-    let up2 = w.up2;
+    let times = common(common(w.up0, w.up1), w.up2);
     let downs = w.down0 + w.down1 + w.down2;
-    if up0 < 1 {
-        return no_weights();
+    if 0 < w.up0 % times + w.up1 % times + w.up2 % times + downs {
+        return None;
     }
-    let times = common(common(up0, up1), up2);
-    if 0 < up0 % times + up1 % times + up2 % times + downs {
-        return no_weights();
-    }
-    let kr = up0 / times;
-    let kg = up1 / times;
-    let kb = up2 / times;
+    let kr = w.up0 / times;
+    let kg = w.up1 / times;
+    let kb = w.up2 / times;
     let all = kr + kg + kb;
-    if 65535 < all {
-        return no_weights();
+    if 1 << 16 <= all {
+        return None;
     }
-    Weights {
+    Some(Weights {
         kr,
         kg,
         kb,
         all,
         times,
-    }
+    })
 }

@@ -1,14 +1,13 @@
 -- Laws of depths: the test and the fact, and the powers that follow from a depth.
 use mathlib.Core.Path.{◌≡◌, ap, ◌∙◌}
-use mathlib.Core.Bool.{Bool, true, false, true≢false, cond}
+use mathlib.Core.Bool.{Bool, true, false}
 use Prim.Native.Nat.{ℕ, ◌+◌, ◌*◌, ◌-◌, ◌^◌, ◌≤◌, ◌<◌}
 use native.Mathlib.Omega.{arith}
 use borrow.Author.Tests.{le-leb, leb-true}
 use lib.Pow.{pow_pos, pow-add, pow_mono}
 use Rattle.sample.specs.Depth.{least_depth, is_depth, Depth, are_depths, ThreeDepths, at_most, H, S}
 use Rattle.sample.specs.declared.Depths.{Depths}
-use Rattle.sample.specs.declared.DepthsChecked.TheVariants as checked
-use Rattle.sample.proofs.Choices.{both_true, le_and, cannot, chose_first, chose_second}
+use Rattle.sample.proofs.Choices.{both_true, le_and, cannot}
 
 pub depth_yes : {n : ℕ} → Depth n → is_depth n ≡ true
 unfolding is_depth
@@ -67,12 +66,3 @@ powers d top h u =
       some = pow_pos (d - least_depth);
       most = pow_mono {j = top} u;
     }
-
--- what a check of three depths tells
-pub was_outside : (b : Bool) (x : Depths) → cond b (checked.Depths x) checked.Outside ≡ checked.Outside → b ≡ false
-was_outside b x e = (chose_second b _ _ _ e (λ f. true≢false cc)).0
-
-pub were_depths : (b : Bool) (x d : Depths) → cond b (checked.Depths x) checked.Outside ≡ checked.Depths d → (b ≡ true) × (x ≡ d)
-were_depths b x d e =
-    let t = chose_first b _ _ _ e (λ f. true≢false cc) in
-    (t.0, (let q = t.1 in cc))

@@ -1,5 +1,5 @@
 -- Depths: their two ends, and the upper end for a level matrix. No other definition has these three numbers.
-use Rattle.std.specs.Prelude.{Bool, ◌&&◌, cond, ℕ, zero, suc, ◌-◌, ◌^◌, ◌≤◌, ◌<◌, leb}
+use Rattle.std.specs.Prelude.{Bool, ◌&&◌, cond, Option, Some, None, ℕ, zero, suc, ◌-◌, ◌^◌, ◌≤◌, ◌<◌, leb}
 use Rattle.sample.specs.declared.RgbDepth.{RgbDepth}
 use Rattle.sample.specs.declared.LumaDepth.{LumaDepth}
 use Rattle.sample.specs.declared.ChromaDepth.{ChromaDepth}
@@ -7,14 +7,6 @@ use Rattle.sample.specs.declared.Depths.{Depths}
 use Rattle.sample.specs.declared.Pixel.{Pixel}
 use Rattle.sample.specs.declared.Side.{Side}
 use Rattle.sample.specs.declared.Side.TheVariants as side
-use Rattle.sample.specs.declared.RgbChecked.{RgbChecked}
-use Rattle.sample.specs.declared.RgbChecked.TheVariants as rgb
-use Rattle.sample.specs.declared.LumaChecked.{LumaChecked}
-use Rattle.sample.specs.declared.LumaChecked.TheVariants as luma
-use Rattle.sample.specs.declared.ChromaChecked.{ChromaChecked}
-use Rattle.sample.specs.declared.ChromaChecked.TheVariants as chroma
-use Rattle.sample.specs.declared.DepthsChecked.{DepthsChecked}
-use Rattle.sample.specs.declared.DepthsChecked.TheVariants as depths
 
 abbrev pub least_depth : ℕ
 least_depth = 8
@@ -48,14 +40,14 @@ abbrev pub depths_of : ℕ → ℕ → ℕ → Depths
 depths_of r y c = record { rgb = rgb_depth r; luma = luma_depth y; chroma = chroma_depth c }
 
 -- the answers of the checks
-unfoldable pub rgb_checked : ℕ → RgbChecked
-rgb_checked n = cond (is_depth n) (rgb.Depth (rgb_depth n)) rgb.Outside
+unfoldable pub rgb_checked : ℕ → Option RgbDepth
+rgb_checked n = cond (is_depth n) (Some (rgb_depth n)) None
 
-unfoldable pub luma_checked : ℕ → LumaChecked
-luma_checked n = cond (is_depth n) (luma.Depth (luma_depth n)) luma.Outside
+unfoldable pub luma_checked : ℕ → Option LumaDepth
+luma_checked n = cond (is_depth n) (Some (luma_depth n)) None
 
-unfoldable pub chroma_checked : ℕ → ChromaChecked
-chroma_checked n = cond (is_depth n) (chroma.Depth (chroma_depth n)) chroma.Outside
+unfoldable pub chroma_checked : ℕ → Option ChromaDepth
+chroma_checked n = cond (is_depth n) (Some (chroma_depth n)) None
 
 -- whether all three are depths
 unfoldable pub are_depths : ℕ → ℕ → ℕ → Bool
@@ -67,8 +59,8 @@ pub record ThreeDepths (d : Depths) : Type 0 where
   pub luma : Depth d.luma.0
   pub chroma : Depth d.chroma.0
 
-unfoldable pub depths_checked : ℕ → ℕ → ℕ → DepthsChecked
-depths_checked r y c = cond (are_depths r y c) (depths.Depths (depths_of r y c)) depths.Outside
+unfoldable pub depths_checked : ℕ → ℕ → ℕ → Option Depths
+depths_checked r y c = cond (are_depths r y c) (Some (depths_of r y c)) None
 
 -- whether no depth is above n
 unfoldable pub at_most : ℕ → Depths → Bool

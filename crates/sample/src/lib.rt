@@ -1,12 +1,11 @@
 // What every crate above speaks of: depths of three kinds that cannot be taken for each other, and a pixel.
 #![tactic(auto)]
 
-ghost use Rattle.std.specs.Prelude.{◌≡◌, ◌^◌, ◌≤◌, ◌<◌, max};
-ghost use Rattle.sample.specs.Depth.{most_depth, Depth, rgb_checked, luma_checked, chroma_checked, depths_checked, ThreeDepths, at_most, M, middle_of, S, tops};
-ghost use Rattle.sample.specs.Flag.{one_if};
+ghost use Rattle.std.specs.Prelude.{◌≡◌, ℕ, ◌^◌, ◌≤◌, ◌<◌};
+ghost use Rattle.sample.specs.Depth.{most_depth, Depth, is_depth, rgb_checked, luma_checked, chroma_checked, depths_checked, ThreeDepths, at_most, M, middle_of, S, tops};
 
 // Three samples, by plane: R, G, B on one side and Y, Cb, Cr on the other.
-#[derive(Clone, Copy)]
+#[derive(Clone, Copy, PartialEq, Eq)]
 pub struct Pixel {
     pub p0: u16,
     pub p1: u16,
@@ -20,14 +19,6 @@ pub enum Side {
     Ycc,
 }
 
-// A flag as a number.
-pub fn one_if(flag: bool) -> u8
-    ensures value { result ≡ one_if flag }
-    ensures upper_bound { result ≤ 1 }
-{
-    if flag { 1 } else { 0 }
-}
-
 // The two ends of every depth, and the upper end for a level matrix.
 pub const LEAST_DEPTH: u8 = 8;
 
@@ -38,6 +29,31 @@ pub const MOST_LEVEL_DEPTH: u8 = 12;
 // The first number past the samples of every depth.
 pub const PAST_SAMPLES: u64 = 1 << MOST_DEPTH;
 
+// What the three kinds of depth have in common. Each is a number of bits, and a type of its own.
+pub trait SampleDepth: Copy {
+    ghost bits: { Self → ℕ };
+
+    fn bits(self) -> u8
+        ensures { result ≡ bits self };
+
+    // M, the largest sample of the plane.
+    final fn largest(self) -> u16
+        requires { bits self ≤ most_depth }
+        ensures { result ≡ M (bits self) }
+    {
+        largest(self.bits())
+    }
+
+    // S, the step of narrow range.
+    final fn step(self) -> u16
+        requires { Depth (bits self) }
+        ensures { result ≡ S (bits self) }
+    {
+        step(self.bits())
+    }
+}
+
+// Three tuple structs, and not one over a kind: the rules want each to be one number.
 #[derive(Clone, Copy)]
 pub struct RgbDepth(pub u8);
 
@@ -47,22 +63,28 @@ pub struct LumaDepth(pub u8);
 #[derive(Clone, Copy)]
 pub struct ChromaDepth(pub u8);
 
-#[derive(Clone, Copy)]
-pub enum RgbChecked {
-    Depth(RgbDepth),
-    Outside,
+impl SampleDepth for RgbDepth {
+    ghost bits = { λ d. d.0 };
+
+    fn bits(self) -> u8 {
+        self.0
+    }
 }
 
-#[derive(Clone, Copy)]
-pub enum LumaChecked {
-    Depth(LumaDepth),
-    Outside,
+impl SampleDepth for LumaDepth {
+    ghost bits = { λ d. d.0 };
+
+    fn bits(self) -> u8 {
+        self.0
+    }
 }
 
-#[derive(Clone, Copy)]
-pub enum ChromaChecked {
-    Depth(ChromaDepth),
-    Outside,
+impl SampleDepth for ChromaDepth {
+    ghost bits = { λ d. d.0 };
+
+    fn bits(self) -> u8 {
+        self.0
+    }
 }
 
 impl RgbDepth {
@@ -70,30 +92,11 @@ impl RgbDepth {
 
     pub const MOST: u8 = MOST_DEPTH;
 
-    pub fn checked(n: u8) -> RgbChecked
+    #[tactic(auto, unfolding(crate::specs::Depth::rgb_checked))]
+    pub fn checked(n: u8) -> Option<RgbDepth>
         ensures { result ≡ rgb_checked n }
     {
-        if n < Self::LEAST {
-            return RgbChecked::Outside;
-        }
-        if Self::MOST < n {
-            return RgbChecked::Outside;
-        }
-        RgbChecked::Depth(RgbDepth(n))
-    }
-
-    pub fn largest(self) -> u16
-        requires { self.0 ≤ most_depth }
-        ensures { result ≡ M self.0 }
-    {
-        largest(self.0)
-    }
-
-    pub fn step(self) -> u16
-        requires { Depth self.0 }
-        ensures { result ≡ S self.0 }
-    {
-        step(self.0)
+        is_depth(n).then_some(RgbDepth(n))
     }
 }
 
@@ -102,30 +105,11 @@ impl LumaDepth {
 
     pub const MOST: u8 = MOST_DEPTH;
 
-    pub fn checked(n: u8) -> LumaChecked
+    #[tactic(auto, unfolding(crate::specs::Depth::luma_checked))]
+    pub fn checked(n: u8) -> Option<LumaDepth>
         ensures { result ≡ luma_checked n }
     {
-        if n < Self::LEAST {
-            return LumaChecked::Outside;
-        }
-        if Self::MOST < n {
-            return LumaChecked::Outside;
-        }
-        LumaChecked::Depth(LumaDepth(n))
-    }
-
-    pub fn largest(self) -> u16
-        requires { self.0 ≤ most_depth }
-        ensures { result ≡ M self.0 }
-    {
-        largest(self.0)
-    }
-
-    pub fn step(self) -> u16
-        requires { Depth self.0 }
-        ensures { result ≡ S self.0 }
-    {
-        step(self.0)
+        is_depth(n).then_some(LumaDepth(n))
     }
 }
 
@@ -134,30 +118,11 @@ impl ChromaDepth {
 
     pub const MOST: u8 = MOST_DEPTH;
 
-    pub fn checked(n: u8) -> ChromaChecked
+    #[tactic(auto, unfolding(crate::specs::Depth::chroma_checked))]
+    pub fn checked(n: u8) -> Option<ChromaDepth>
         ensures { result ≡ chroma_checked n }
     {
-        if n < Self::LEAST {
-            return ChromaChecked::Outside;
-        }
-        if Self::MOST < n {
-            return ChromaChecked::Outside;
-        }
-        ChromaChecked::Depth(ChromaDepth(n))
-    }
-
-    pub fn largest(self) -> u16
-        requires { self.0 ≤ most_depth }
-        ensures { result ≡ M self.0 }
-    {
-        largest(self.0)
-    }
-
-    pub fn step(self) -> u16
-        requires { Depth self.0 }
-        ensures { result ≡ S self.0 }
-    {
-        step(self.0)
+        is_depth(n).then_some(ChromaDepth(n))
     }
 
     // H, the middle of the plane.
@@ -166,9 +131,16 @@ impl ChromaDepth {
         requires self_le_most_depth { self.0 ≤ most_depth }
         ensures { result ≡ middle_of self }
     {
-        let depth = self.0;
-        power(depth - 1)
+        power(self.0 - 1)
     }
+}
+
+// Whether a number is a depth.
+#[tactic(auto, unfolding(crate::specs::Depth::is_depth))]
+fn is_depth(n: u8) -> bool
+    ensures { result ≡ is_depth n }
+{
+    LEAST_DEPTH <= n && n <= MOST_DEPTH
 }
 
 // The depths of a setting, past their check.
@@ -179,26 +151,15 @@ pub struct Depths {
     pub chroma: ChromaDepth,
 }
 
-#[derive(Clone, Copy)]
-pub enum DepthsChecked {
-    Depths(Depths),
-    Outside,
-}
-
 impl Depths {
-    pub fn checked(rgb: u8, luma: u8, chroma: u8) -> DepthsChecked
+    #[tactic(auto, unfolding(crate::specs::Depth::rgb_checked, crate::specs::Depth::luma_checked, crate::specs::Depth::chroma_checked, crate::specs::Depth::are_depths, crate::specs::Depth::depths_checked))]
+    pub fn checked(rgb: u8, luma: u8, chroma: u8) -> Option<Depths>
         ensures { result ≡ depths_checked rgb luma chroma }
     {
-        let RgbChecked::Depth(rgb) = RgbDepth::checked(rgb) else {
-            return DepthsChecked::Outside;
-        };
-        let LumaChecked::Depth(luma) = LumaDepth::checked(luma) else {
-            return DepthsChecked::Outside;
-        };
-        let ChromaChecked::Depth(chroma) = ChromaDepth::checked(chroma) else {
-            return DepthsChecked::Outside;
-        };
-        DepthsChecked::Depths(Depths { rgb, luma, chroma })
+        let rgb = RgbDepth::checked(rgb)?;
+        let luma = LumaDepth::checked(luma)?;
+        let chroma = ChromaDepth::checked(chroma)?;
+        Some(Depths { rgb, luma, chroma })
     }
 
     // The largest sample of each plane of a side.
@@ -206,40 +167,23 @@ impl Depths {
         requires { ThreeDepths self }
         ensures { result ≡ tops side self }
     {
-        let rgb = self.rgb.largest();
-        let luma = self.luma.largest();
-        let chroma = self.chroma.largest();
-        match side {
-            Side::Rgb => Pixel {
-                p0: rgb,
-                p1: rgb,
-                p2: rgb,
-            },
-            Side::Ycc => Pixel {
-                p0: luma,
-                p1: chroma,
-                p2: chroma,
-            },
-        }
+        let [p0, p1, p2] = match side {
+            Side::Rgb => [self.rgb.largest(), self.rgb.largest(), self.rgb.largest()],
+            Side::Ycc => [
+                self.luma.largest(),
+                self.chroma.largest(),
+                self.chroma.largest(),
+            ],
+        };
+        Pixel { p0, p1, p2 }
     }
 
     // Whether no depth is above `most`.
+    #[tactic(auto, unfolding(crate::specs::Depth::at_most))]
     pub fn at_most(self, most: u8) -> bool
         ensures { result ≡ at_most most self }
     {
-        let rgb = self.rgb;
-        let luma = self.luma;
-        let chroma = self.chroma;
-        if most < rgb.0 {
-            return false;
-        }
-        if most < luma.0 {
-            return false;
-        }
-        if most < chroma.0 {
-            return false;
-        }
-        true
+        self.rgb.0 <= most && self.luma.0 <= most && self.chroma.0 <= most
     }
 }
 
@@ -256,8 +200,7 @@ pub fn largest(depth: u8) -> u16
     requires { depth ≤ most_depth }
     ensures { result ≡ M depth }
 {
-    let count = 1u32 << depth;
-    (count - 1) as u16
+    ((1u32 << depth) - 1) as u16
 }
 
 // S, the step of narrow range: it is 1 at 8 bits, whatever the least depth is.
@@ -266,14 +209,4 @@ fn step(depth: u8) -> u16
     ensures { result ≡ S depth }
 {
     power(depth - 8)
-}
-
-// The larger of two samples.
-pub fn larger(a: u16, b: u16) -> u16
-    ensures { result ≡ max a b }
-{
-    if a < b {
-        return b;
-    }
-    a
 }

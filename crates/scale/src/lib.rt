@@ -5,7 +5,7 @@ ghost use Rattle.std.specs.Prelude.{◌≡◌};
 ghost use Rattle.sample.specs.Depth.{Depth};
 ghost use Rattle.scale.specs.Scale.{light_by, rgb_scale, luma_scale, chroma_scale};
 
-use sample::{ChromaDepth, LumaDepth, RgbDepth};
+use sample::{ChromaDepth, LumaDepth, RgbDepth, SampleDepth};
 
 // A sample v stands for (v - plus) / times.
 #[derive(Clone, Copy)]
@@ -28,16 +28,19 @@ fn light_scale(full: bool, top: u16, step: u16) -> Scale
     ensures { result ≡ light_by full top step }
 {
     if full {
-        return Scale {
+        Scale {
             times: top as u64,
             plus: 0,
-        };
+        }
+    } else {
+        Scale {
+            times: LIGHT_SPAN * step as u64,
+            plus: BLACK * step as u64,
+        }
     }
-    let times = LIGHT_SPAN * step as u64;
-    let plus = BLACK * step as u64;
-    Scale { times, plus }
 }
 
+// R, G and B, and Y: the depth's type alone differs, and it is what keeps one from being read by the depth of the other.
 pub fn rgb_scale(full: bool, d: RgbDepth) -> Scale
     requires { Depth d.0 }
     ensures { result ≡ rgb_scale full d }
@@ -57,12 +60,15 @@ pub fn chroma_scale(full: bool, d: ChromaDepth) -> Scale
     ensures { result ≡ chroma_scale full d }
 {
     if full {
-        let times = d.largest() as u64;
-        let plus = d.middle() as u64;
-        return Scale { times, plus };
+        Scale {
+            times: d.largest() as u64,
+            plus: d.middle() as u64,
+        }
+    } else {
+        let step = d.step() as u64;
+        Scale {
+            times: CHROMA_SPAN * step,
+            plus: GREY * step,
+        }
     }
-    let step = d.step() as u64;
-    let times = CHROMA_SPAN * step;
-    let plus = GREY * step;
-    Scale { times, plus }
 }

@@ -1,4 +1,5 @@
 -- What the answer of a search for a bad sample means, and that it depends on the picture's samples alone.
+use Rattle.std.specs.Prelude.{Option, Some, None}
 use mathlib.Core.Path.{◌≡◌, refl, sym, ap, ◌∙◌}
 use mathlib.Core.Bool.{true, false}
 use mathlib.Core.List.{List}
@@ -11,9 +12,6 @@ use Rattle.refusal.specs.declared.Place.{Place}
 use Rattle.planes.specs.Plane.{sample_at, SamePicture}
 use Rattle.planes.specs.Picture.{Picture, picture, plane_at, sample_of, EveryPixel}
 use Rattle.scan.specs.First.{first_of, is_above, first_bad, bad_in_plane, bad_sample, bad_found, sample_on, with_sample, AllFine, FinePlane, IsFirstBad, IsBadInPlane, IsPlaceOf, IsBadSample, NotAbove}
-use Rattle.scan.specs.declared.Bad.TheVariants as bad
-use Rattle.scan.specs.declared.Found.{Found}
-use Rattle.scan.specs.declared.Found.TheVariants.{At, Nothing}
 use Rattle.scan.proofs.Searches.{nothing_exactly, found_exactly, no_place_means, first_place_means, first_place_same}
 
 -- ---- one plane
@@ -25,31 +23,31 @@ module _ (p : List ℕ) (plane width height stride top : ℕ) where
   not_above : (j i : ℕ) → j < height → i < width → (is_above p stride top j i ≡ false) ↔ (sample_at p stride j i ≤ top)
   not_above j i a b = (ltb-false top (sample_at p stride j i), le-ltb top (sample_at p stride j i))
 
-  -- Nothing: every sample is within its depth
-  pub nothing_means : (first_bad p plane width height stride top ≡ Nothing) ↔ AllFine p width height stride top
+  -- None: every sample is within its depth
+  pub nothing_means : (first_bad p plane width height stride top ≡ None) ↔ AllFine p width height stride top
   nothing_means = no_place_means (is_above p stride top) plane width height _ _ above not_above
 
   -- the place found is that of a sample beyond its depth, before which there is none
-  pub at_means : (place : Place) → (first_bad p plane width height stride top ≡ At place) ↔ IsFirstBad p plane width height stride top place
+  pub at_means : (place : Place) → (first_bad p plane width height stride top ≡ Some place) ↔ IsFirstBad p plane width height stride top place
   at_means place = first_place_means (is_above p stride top) plane width height _ _ above not_above place
 
 -- ---- a picture
 
 module _ (a : Picture) (tops : Pixel) where
-  plane_fine : (k : ℕ) → (bad_in_plane a tops k ≡ Nothing) ↔ FinePlane a tops k
+  plane_fine : (k : ℕ) → (bad_in_plane a tops k ≡ None) ↔ FinePlane a tops k
   plane_fine k = nothing_means (plane_at k a) k a.width a.height a.stride (sample_of k tops)
 
-  plane_bad : (k : ℕ) (place : Place) → (bad_in_plane a tops k ≡ At place) ↔ IsBadInPlane a tops k place
+  plane_bad : (k : ℕ) (place : Place) → (bad_in_plane a tops k ≡ Some place) ↔ IsBadInPlane a tops k place
   plane_bad k place = at_means (plane_at k a) k a.width a.height a.stride (sample_of k tops) place
 
-  -- Nothing: no plane has a bad sample
-  pub nothing_in_planes_means : (bad_sample a tops ≡ Nothing) ↔ ((k : ℕ) → k < 3 → FinePlane a tops k)
+  -- None: no plane has a bad sample
+  pub nothing_in_planes_means : (bad_sample a tops ≡ None) ↔ ((k : ℕ) → k < 3 → FinePlane a tops k)
   unfolding bad_sample
   nothing_in_planes_means =
       let t = nothing_exactly (bad_in_plane a tops) 3 in
       (λ e k l. (plane_fine k).0 (t.0 e k l), λ h. t.1 (λ k l. (plane_fine k).1 (h k l)))
 
-  found_lowest : (place : Place) → bad_sample a tops ≡ At place → IsBadSample a tops place
+  found_lowest : (place : Place) → bad_sample a tops ≡ Some place → IsBadSample a tops place
   unfolding bad_sample
   found_lowest place e =
       let r = (found_exactly (bad_in_plane a tops) 3 place).0 e in
@@ -61,7 +59,7 @@ module _ (a : Picture) (tops : Pixel) where
         fine_below = λ k l. (plane_fine k).0 (r.none k (omega (arith, l, q)));
       }
 
-  lowest_found : (place : Place) → IsBadSample a tops place → bad_sample a tops ≡ At place
+  lowest_found : (place : Place) → IsBadSample a tops place → bad_sample a tops ≡ Some place
   unfolding bad_sample
   lowest_found place b =
       (found_exactly (bad_in_plane a tops) 3 place).1
@@ -73,7 +71,7 @@ module _ (a : Picture) (tops : Pixel) where
       })
 
   -- the place found is in the lowest plane that has a bad sample, and is that plane's first
-  pub at_in_planes_means : (place : Place) → (bad_sample a tops ≡ At place) ↔ IsBadSample a tops place
+  pub at_in_planes_means : (place : Place) → (bad_sample a tops ≡ Some place) ↔ IsBadSample a tops place
   at_in_planes_means place = (found_lowest place, lowest_found place)
 
   -- which is a place of the picture
@@ -87,8 +85,8 @@ module _ (a : Picture) (tops : Pixel) where
   fine h (suc (suc zero)) l j i x y = (h j i x y).within2
   fine h (suc (suc (suc k))) l j i x y = absurd (omega arith)
 
-  -- Nothing: no sample of any pixel is above the largest of its plane
-  pub nothing_in_pixels_means : (bad_sample a tops ≡ Nothing) ↔ EveryPixel (NotAbove tops) a
+  -- None: no sample of any pixel is above the largest of its plane
+  pub nothing_in_pixels_means : (bad_sample a tops ≡ None) ↔ EveryPixel (NotAbove tops) a
   nothing_in_pixels_means =
       let t = nothing_in_planes_means in (
         λ e j i x y.
@@ -128,11 +126,11 @@ module _ (a : Picture) (q0 q1 q2 : List ℕ) (e0 : SamePicture a.width a.height 
     stands_same (suc (suc zero)) l = e2
     stands_same (suc (suc (suc k))) l = absurd (omega arith)
 
-    with_same : (tops : Pixel) (f : Found) → bad_sample a tops ≡ f → with_sample (sample_on a) f ≡ with_sample (sample_on q) f
-    with_same tops (At place) e =
+    with_same : (tops : Pixel) (f : Option Place) → bad_sample a tops ≡ f → with_sample (sample_on a) f ≡ with_sample (sample_on q) f
+    with_same tops (Some place) e =
         let i = bad_inside a tops place ((at_in_planes_means a tops place).0 e) in
-        ap (bad.At place) (stands_same place.plane i.plane_inside place.row place.column i.row_inside i.column_inside)
-    with_same tops Nothing e = refl
+        ap (λ v. Some (place, v)) (stands_same place.plane i.plane_inside place.row place.column i.row_inside i.column_inside)
+    with_same tops None e = refl
 
     pub bad_found_same : (tops : Pixel) → bad_found a tops ≡ bad_found q tops
     bad_found_same tops = with_same tops (bad_sample a tops) refl ∙ ap (with_sample (sample_on q)) (place_same tops)

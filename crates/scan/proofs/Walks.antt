@@ -3,6 +3,7 @@
 -- by `walked_past` has passed the whole picture over;
 -- a turn of the columns is `walked_column`, a row that is through `walked_row`, a row that is passed over as a whole `walked_over`. What
 -- was found is by `walked_all` and `walked_here` what the search finds.
+use Rattle.std.specs.Prelude.{Option, Some, None}
 use mathlib.Core.Path.{◌≡◌, refl, sym, ◌∙◌, subst}
 use mathlib.Core.Bool.{Bool, true, false}
 use mathlib.Core.Logic.{◌↔◌, ⊎_elim}
@@ -11,33 +12,32 @@ use native.Mathlib.Omega.{arith}
 use borrow.Author.Count.{below_none, below_more}
 use Rattle.refusal.specs.Rules.{at}
 use Rattle.scan.specs.First.{first_place}
-use Rattle.scan.specs.declared.Found.{Found}
-use Rattle.scan.specs.declared.Found.TheVariants.{At, Nothing}
 use Rattle.scan.proofs.Searches.{no_place_means, first_place_means}
+use Rattle.refusal.specs.declared.Place.{Place}
 
 -- the test fails at every column of row j before column i
 abbrev pub NoneBefore : (ℕ → ℕ → Bool) → ℕ → ℕ → Type 0
 NoneBefore test j i = (c : ℕ) → c < i → test j c ≡ false
 
 -- nothing was found in the rows before row j, nor before column i of row j
-pub record Walked (test : ℕ → ℕ → Bool) (width height : ℕ) (found : Found) (j i : ℕ) : Type 0 where
+pub record Walked (test : ℕ → ℕ → Bool) (width height : ℕ) (found : Option Place) (j i : ℕ) : Type 0 where
   pub row_most : j ≤ height
   pub column_most : i ≤ width
-  pub nothing : found ≡ Nothing
+  pub nothing : found ≡ None
   pub rows : (r : ℕ) → r < j → NoneBefore test r width
   pub columns : NoneBefore test j i
 
 module _ {test : ℕ → ℕ → Bool} {width height : ℕ} where
-  pub walked_none : Walked test width height Nothing 0 0
+  pub walked_none : Walked test width height None 0 0
   walked_none =
       record { row_most = omega arith; column_most = omega arith; nothing = refl; rows = below_none _; columns = below_none _ }
 
   -- the whole picture is passed over
-  pub walked_past : ((j i : ℕ) → j < height → i < width → test j i ≡ false) → Walked test width height Nothing height 0
+  pub walked_past : ((j i : ℕ) → j < height → i < width → test j i ≡ false) → Walked test width height None height 0
   walked_past e =
       record { row_most = omega arith; column_most = omega arith; nothing = refl; rows = λ j h i k. e j i h k; columns = below_none _ }
 
-  module _ {found : Found} {j i : ℕ} (w : Walked test width height found j i) where
+  module _ {found : Option Place} {j i : ℕ} (w : Walked test width height found j i) where
     pub walked_column : i < width → test j i ≡ false → Walked test width height found j (i + 1)
     walked_column l e =
         record { row_most = w.row_most; column_most = omega arith; nothing = w.nothing; rows = w.rows; columns = below_more _ i w.columns e }
@@ -57,7 +57,7 @@ module _ {test : ℕ → ℕ → Bool} {width height : ℕ} where
         w.nothing
         ∙ sym ((no_place_means test plane width height _ _ (itself true) (itself false)).1 (λ r c a b. w.rows r (omega arith) c b))
 
-    pub walked_here : (plane : ℕ) → j < height → i < width → test j i ≡ true → At (at plane j i) ≡ first_place test plane width height
+    pub walked_here : (plane : ℕ) → j < height → i < width → test j i ≡ true → Some (at plane j i) ≡ first_place test plane width height
     walked_here plane a b e =
         sym
         ((first_place_means test plane width height _ _ (itself true) (itself false) (at plane j i)).1

@@ -1,36 +1,33 @@
 -- Rule 10 of the refusals: the first bad sample of a picture. Planes are searched in their order, each row by row, a row from its first
 -- column on.
-use Rattle.std.specs.Prelude.{◌≡◌, Bool, true, false, cond, List, ◌⊎◌, ℕ, zero, suc, ◌+◌, ◌≤◌, ◌<◌, max, ltb, get_or}
+use Rattle.std.specs.Prelude.{◌≡◌, Bool, true, false, cond, List, ◌⊎◌, ℕ, zero, suc, ◌+◌, ◌≤◌, ◌<◌, max, ltb, get_or, Option, Some, None}
 use Rattle.refusal.specs.Rules.{Rule, rule, at, bad_at}
 use Rattle.refusal.specs.declared.Place.{Place}
 use Rattle.sample.specs.declared.Pixel.{Pixel}
 use Rattle.planes.specs.Plane.{sample_at}
+use Rattle.planes.specs.Three.{Three}
 use Rattle.planes.specs.Picture.{Picture, plane_at, sample_of}
-use Rattle.scan.specs.declared.Bad.{Bad}
-use Rattle.scan.specs.declared.Bad.TheVariants as bad
-use Rattle.scan.specs.declared.Found.{Found}
-use Rattle.scan.specs.declared.Found.TheVariants.{At, Nothing}
 
--- a, unless it is Nothing, and then b
-unfoldable pub or_found : Found → Found → Found
-or_found (At place) b = At place
-or_found Nothing b = b
+-- a, unless it is None, and then b
+unfoldable pub or_found : Option Place → Option Place → Option Place
+or_found (Some place) b = Some place
+or_found None b = b
 
--- the first of f 0, .., f (n - 1) that is not Nothing
-unfoldable pub first_of : ℕ → (ℕ → Found) → Found
-first_of zero f = Nothing
+-- the first of f 0, .., f (n - 1) that is not None
+unfoldable pub first_of : ℕ → (ℕ → Option Place) → Option Place
+first_of zero f = None
 first_of (suc n) f = or_found (first_of n f) (f n)
 
 -- the place of row j and column i of a plane, if a test holds there
-unfoldable pub place_if : (ℕ → ℕ → Bool) → ℕ → ℕ → ℕ → Found
-place_if test plane j i = cond (test j i) (At (at plane j i)) Nothing
+unfoldable pub place_if : (ℕ → ℕ → Bool) → ℕ → ℕ → ℕ → Option Place
+place_if test plane j i = cond (test j i) (Some (at plane j i)) None
 
 -- the first such place of row j
-unfoldable pub place_in_row : (ℕ → ℕ → Bool) → ℕ → ℕ → ℕ → Found
+unfoldable pub place_in_row : (ℕ → ℕ → Bool) → ℕ → ℕ → ℕ → Option Place
 place_in_row test plane width j = first_of width (place_if test plane j)
 
 -- the first such place of a picture, by row and then by column
-unfoldable pub first_place : (ℕ → ℕ → Bool) → ℕ → ℕ → ℕ → Found
+unfoldable pub first_place : (ℕ → ℕ → Bool) → ℕ → ℕ → ℕ → Option Place
 first_place test plane width height = first_of height (place_in_row test plane width)
 
 -- whether the sample at row j and column i is above top, the largest that its depth has
@@ -38,15 +35,15 @@ abbrev pub is_above : List ℕ → ℕ → ℕ → ℕ → ℕ → Bool
 is_above p stride top j i = ltb top (sample_at p stride j i)
 
 -- the first bad sample of a plane
-abbrev pub first_bad : List ℕ → ℕ → ℕ → ℕ → ℕ → ℕ → Found
+abbrev pub first_bad : List ℕ → ℕ → ℕ → ℕ → ℕ → ℕ → Option Place
 first_bad p plane width height stride top = first_place (is_above p stride top) plane width height
 
 -- that of plane k of a picture, where tops has the largest sample of each plane
-abbrev pub bad_in_plane : Picture → Pixel → ℕ → Found
+abbrev pub bad_in_plane : Picture → Pixel → ℕ → Option Place
 bad_in_plane a tops k = first_bad (plane_at k a) k a.width a.height a.stride (sample_of k tops)
 
 -- the first bad sample of a picture
-unfoldable pub bad_sample : Picture → Pixel → Found
+unfoldable pub bad_sample : Picture → Pixel → Option Place
 bad_sample a tops = first_of 3 (bad_in_plane a tops)
 
 -- the sample of a picture that stands at a place
@@ -54,18 +51,18 @@ abbrev pub sample_on : Picture → Place → ℕ
 sample_on a place = sample_at (plane_at place.plane a) a.stride place.row place.column
 
 -- what a search has found, with the sample that stands there
-abbrev pub with_sample : (Place → ℕ) → Found → Bad
-with_sample sample (At place) = bad.At place (sample place)
-with_sample sample Nothing = bad.Nothing
+abbrev pub with_sample : (Place → ℕ) → Option Place → Option (Place × ℕ)
+with_sample sample (Some place) = Some (place, sample place)
+with_sample sample None = None
 
 -- the first bad sample of a picture, and the number that stands there
-abbrev pub bad_found : Picture → Pixel → Bad
+abbrev pub bad_found : Picture → Pixel → Option (Place × ℕ)
 bad_found a tops = with_sample (sample_on a) (bad_sample a tops)
 
 -- rule 10, by what the search for a bad sample has found
-abbrev pub bad_rule : Bad → Rule
-bad_rule (bad.At place v) = record { refusal = bad_at place v; applies = true }
-bad_rule bad.Nothing = rule 10 false
+abbrev pub bad_rule : Option (Place × ℕ) → Rule
+bad_rule (Some bad) = record { refusal = bad_at bad.0 bad.1; applies = true }
+bad_rule None = rule 10 false
 
 -- the largest of the first n elements, or 0 of none
 unfoldable pub largest_of : ℕ → List ℕ → ℕ
@@ -73,8 +70,8 @@ largest_of zero s = 0
 largest_of (suc n) s = max (largest_of n s) (get_or s n 0)
 
 -- that of each of three lists
-abbrev pub largest_pixel : ℕ → List ℕ → List ℕ → List ℕ → Pixel
-largest_pixel n s0 s1 s2 = record { p0 = largest_of n s0; p1 = largest_of n s1; p2 = largest_of n s2 }
+abbrev pub largest_pixel : ℕ → Three → Pixel
+largest_pixel n a = record { p0 = largest_of n a.p0; p1 = largest_of n a.p1; p2 = largest_of n a.p2 }
 
 -- every sample inside the picture is within its depth
 abbrev pub AllFine : List ℕ → ℕ → ℕ → ℕ → ℕ → Type 0
@@ -84,8 +81,8 @@ AllFine p width height stride top = (j i : ℕ) → j < height → i < width →
 abbrev pub RunFine : List ℕ → ℕ → ℕ → ℕ → Type 0
 RunFine p from n top = (k : ℕ) → k < n → get_or p (from + k) 0 ≤ top
 
-abbrev pub RunsFine : Pixel → ℕ → ℕ → List ℕ → List ℕ → List ℕ → Type 0
-RunsFine tops from n p0 p1 p2 = RunFine p0 from n tops.p0 × (RunFine p1 from n tops.p1 × RunFine p2 from n tops.p2)
+abbrev pub RunsFine : Pixel → ℕ → ℕ → Three → Type 0
+RunsFine tops from n a = RunFine a.p0 from n tops.p0 × (RunFine a.p1 from n tops.p1 × RunFine a.p2 from n tops.p2)
 
 -- an answer that is yes exactly if a fact holds
 abbrev pub Tells : Bool → Type 0 → Type 0

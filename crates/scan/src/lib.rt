@@ -2,55 +2,44 @@
 #![tactic(auto)]
 
 ghost use Rattle.std.specs.Prelude.{◌≡◌, true, ◌+◌, ◌≤◌, length};
-ghost use Rattle.planes.specs.Sizes.{Sized, Long, needed};
-ghost use Rattle.planes.specs.Picture.{picture};
+ghost use Rattle.planes.specs.Sizes.{Sized, needed};
+ghost use Rattle.planes.specs.Three.{held, LongThree};
+ghost use Rattle.planes.specs.Picture.{PictureFits};
+ghost use Rattle.planes.specs.Shown.{shown};
 ghost use Rattle.scan.specs.First.{largest_of, largest_pixel, first_bad, bad_sample, bad_found, sample_on, AllFine, RunsFine, Tells, IsPlaceOf};
 
-use planes::size::row_start;
+use planes::picture::Picture;
+use planes::size::{needed, row_start};
+use planes::three::Planes;
 use refusal::Place;
-use sample::{Pixel, larger};
-
-// What a search finds.
-#[derive(Clone, Copy)]
-pub enum Found {
-    At(Place),
-    Nothing,
-}
-
-// The same of a search for a bad sample: its place, and the number that stands there.
-#[derive(Clone, Copy)]
-pub enum Bad {
-    At(Place, u16),
-    Nothing,
-}
+use sample::Pixel;
 
 // The largest element, or 0 of none.
+#[tactic(auto, unfolding(crate::specs::First::largest_of))]
 fn largest(s: &[u16]) -> u16
     ensures { result ≡ largest_of (length s.now) s.now }
 {
     let mut m = 0;
-    for i in 0..s.len() {
-        let v = s[i];
-        if v > m {
-            m = v;
-        }
+    for v in s {
+        m = m.max(*v);
     }
     m
 }
 
-// The largest element of each of three, in one walk: what has to be fetched of one is fetched while another is looked at.
-fn largest_of_three(s0: &[u16], s1: &[u16], s2: &[u16]) -> Pixel
-    requires s1_len { length s1.now ≡ length s0.now }
-    requires s2_len { length s2.now ≡ length s0.now }
-    ensures { result ≡ largest_pixel (length s0.now) s0.now s1.now s2.now }
+// The largest element of each of three planes, in one walk by an index: what has to be fetched of one is fetched while another is looked at.
+#[tactic(auto, using(crate::proofs::Searches::largest_more), unfolding(crate::specs::First::largest_of))]
+fn largest_of_three(a: Planes<'_>) -> Pixel
+    requires a1_len { length a.p1.now ≡ length a.p0.now }
+    requires a2_len { length a.p2.now ≡ length a.p0.now }
+    ensures { result ≡ largest_pixel (length a.entry.p0.now) (held a.entry) }
 {
     let mut m0 = 0;
     let mut m1 = 0;
     let mut m2 = 0;
-    for i in 0..s0.len() {
-        m0 = larger(m0, s0[i]);
-        m1 = larger(m1, s1[i]);
-        m2 = larger(m2, s2[i]);
+    for i in 0..a.p0.len() {
+        m0 = m0.max(a.p0[i]);
+        m1 = m1.max(a.p1[i]);
+        m2 = m2.max(a.p2[i]);
     }
     Pixel {
         p0: m0,
@@ -59,23 +48,19 @@ fn largest_of_three(s0: &[u16], s1: &[u16], s2: &[u16]) -> Pixel
     }
 }
 
-// Yes exactly if none of the n samples from index `from` on is above its top, in any of three planes.
-pub fn runs_fine(tops: Pixel, from: usize, n: usize, a0: &[u16], a1: &[u16], a2: &[u16]) -> bool
-    requires { Long (from + n) (length a0.now) (length a1.now) (length a2.now) }
-    ensures { Tells result (RunsFine tops from n a0.now a1.now a2.now) }
+// Yes exactly if no sample of a pixel is above its top.
+fn is_within(p: Pixel, tops: Pixel) -> bool
+    ensures { Tells result ((p.p0 ≤ tops.p0) × ((p.p1 ≤ tops.p1) × (p.p2 ≤ tops.p2))) }
 {
-    let end = from + n;
-    let most = largest_of_three(&a0[from..end], &a1[from..end], &a2[from..end]);
-    if tops.p0 < most.p0 {
-        return false;
-    }
-    if tops.p1 < most.p1 {
-        return false;
-    }
-    if tops.p2 < most.p2 {
-        return false;
-    }
-    true
+    p.p0 <= tops.p0 && p.p1 <= tops.p1 && p.p2 <= tops.p2
+}
+
+// Yes exactly if none of the n samples from index `from` on is above its top, in any of three planes.
+pub fn runs_fine(tops: Pixel, from: usize, n: usize, a: Planes<'_>) -> bool
+    requires { LongThree (from + n) (held a) }
+    ensures { Tells result (RunsFine tops from n (held a.entry)) }
+{
+    is_within(largest_of_three(a.part(from, n)), tops)
 }
 
 // Yes only if no sample is above `top`. Rows that have nothing between them are looked at as one; of others it says no.
@@ -87,9 +72,7 @@ fn whole_fine(p: &[u16], width: usize, height: usize, stride: usize, top: u16) -
     if stride != width {
         return false;
     }
-    let start = 0;
-    let end = row_start(height - 1, height, stride) + width;
-    largest(&p[start..end]) <= top
+    largest(&p[..needed(width, height, stride)]) <= top
 }
 
 // The first sample above `top`, by row and then by column. A plane, or a row, whose largest sample is not above it is passed
@@ -101,15 +84,16 @@ pub fn first_bad(
     height: usize,
     stride: usize,
     top: u16,
-) -> Found
+) -> Option<Place>
     requires sized { Sized width height stride }
     requires stride_in_bounds { needed width height stride ≤ length p.now }
     ensures { result ≡ first_bad p.now plane width height stride top }
 {
     if whole_fine(p, width, height, stride, top) {
-        return Found::Nothing;
+        return None;
     }
-    let mut found = Found::Nothing;
+    let mut found = None;
+    // A loop in a loop: rule 10 names the first sample by row and then by column, and the search ends there, by the label.
     'rows: for j in 0..height {
         let a = row_start(j, height, stride);
         let e = a + width;
@@ -120,7 +104,7 @@ pub fn first_bad(
             if top < p[a + i] {
                 let row = j as u16;
                 let column = i as u16;
-                found = Found::At(Place { plane, row, column });
+                found = Some(Place { plane, row, column });
                 break 'rows;
             }
         }
@@ -128,76 +112,37 @@ pub fn first_bad(
     found
 }
 
-// The place of the first bad sample of three planes, where `tops` has the largest sample of each: in the lowest plane that has one.
-fn first_bad_of_three(
-    a0: &[u16],
-    a1: &[u16],
-    a2: &[u16],
-    width: usize,
-    height: usize,
-    stride: usize,
-    tops: Pixel,
-) -> Found
-    requires sized { Sized width height stride }
-    requires long { Long (needed width height stride) (length a0.now) (length a1.now) (length a2.now) }
-    ensures { result ≡ bad_sample (picture width height stride a0.now a1.now a2.now) tops }
+// The place of the first bad sample of a picture, where `tops` has the largest sample of each plane: in the lowest plane that has one.
+#[tactic(auto, unfolding(crate::specs::First::bad_sample, crate::specs::First::first_of, crate::specs::First::or_found))]
+fn first_bad_of_three(a: Picture<'_>, tops: Pixel) -> Option<Place>
+    requires { PictureFits (shown a) }
+    ensures { result ≡ bad_sample (shown a.entry) tops }
 {
-    let found0 = first_bad(a0, 0, width, height, stride, tops.p0);
-    if let Found::At(_) = found0 {
-        return found0;
-    }
-    let found1 = first_bad(a1, 1, width, height, stride, tops.p1);
-    if let Found::At(_) = found1 {
-        return found1;
-    }
-    first_bad(a2, 2, width, height, stride, tops.p2)
+    first_bad(a.planes.p0, 0, a.width, a.height, a.stride, tops.p0)
+        .or_else(|| first_bad(a.planes.p1, 1, a.width, a.height, a.stride, tops.p1))
+        .or_else(|| first_bad(a.planes.p2, 2, a.width, a.height, a.stride, tops.p2))
 }
 
-// The sample that stands at a place of three planes.
-fn sample_on(
-    place: Place,
-    width: usize,
-    height: usize,
-    stride: usize,
-    a0: &[u16],
-    a1: &[u16],
-    a2: &[u16],
-) -> u16
-    requires sized { Sized width height stride }
-    requires long { Long (needed width height stride) (length a0.now) (length a1.now) (length a2.now) }
-    requires place_of { IsPlaceOf (picture width height stride a0.now a1.now a2.now) place }
-    ensures { result ≡ sample_on (picture width height stride a0.now a1.now a2.now) place }
+// The sample that stands at a place of a picture.
+fn sample_on(place: Place, a: Picture<'_>) -> u16
+    requires fits { PictureFits (shown a) }
+    requires place_of { IsPlaceOf (shown a) place }
+    ensures { result ≡ sample_on (shown a.entry) place }
 {
-    let plane = place.plane;
-    let row = place.row as usize;
-    let column = place.column as usize;
-    let k = row_start(row, height, stride) + column;
-    match plane {
-        0 => a0[k],
-        1 => a1[k],
-        _ => a2[k],
+    let k = row_start(place.row as usize, a.height, a.stride) + place.column as usize;
+    match place.plane {
+        0 => a.planes.p0[k],
+        1 => a.planes.p1[k],
+        _ => a.planes.p2[k],
     }
 }
 
-// The first bad sample of three planes, and its number.
-pub fn bad_of_three(
-    a0: &[u16],
-    a1: &[u16],
-    a2: &[u16],
-    width: usize,
-    height: usize,
-    stride: usize,
-    tops: Pixel,
-) -> Bad
-    requires sized { Sized width height stride }
-    requires long { Long (needed width height stride) (length a0.now) (length a1.now) (length a2.now) }
-    ensures { result ≡ bad_found (picture width height stride a0.now a1.now a2.now) tops }
+// The first bad sample of a picture, and its number.
+pub fn bad_of_three(a: Picture<'_>, tops: Pixel) -> Option<(Place, u16)>
+    requires { PictureFits (shown a) }
+    ensures { result ≡ bad_found (shown a.entry) tops }
 {
-    match first_bad_of_three(a0, a1, a2, width, height, stride, tops) {
-        Found::At(place) => {
-            let sample = sample_on(place, width, height, stride, a0, a1, a2);
-            Bad::At(place, sample)
-        }
-        Found::Nothing => Bad::Nothing,
-    }
+    let place = first_bad_of_three(a, tops)?;
+    let sample = sample_on(place, a);
+    Some((place, sample))
 }

@@ -1,4 +1,5 @@
 -- Of two editions that both take a setting, each serves it as the other does: where their tables differ, at most one takes it.
+use Rattle.std.specs.Prelude.{Option, Some, None, Ok}
 use mathlib.Core.Path.{◌≡◌, refl, sym, ap}
 use mathlib.Core.Bool.{Bool, true, false, true≢false}
 use mathlib.Core.List.{List, [], ◌∷◌, ◌++◌}
@@ -11,17 +12,12 @@ use lib.ListN.{get_or}
 use Rattle.sample.specs.declared.Depths.{Depths}
 use Rattle.sample.proofs.Choices.{both_true}
 use Rattle.refusal.specs.Rules.{first}
-use Rattle.refusal.specs.declared.Check.TheVariants.{Passed}
 use Rattle.refusal.proofs.RuleLaws.{passed_over}
 use Rattle.codes.specs.Edition.{edition_of}
 use Rattle.codes.specs.Matrix.{common, added, matrix_of}
 use Rattle.codes.specs.Standing.{standing, entry_of, matrix_by}
 use Rattle.codes.specs.declared.edition.Edition.{Edition}
 use Rattle.codes.specs.declared.edition.Edition.TheVariants.{Of2021, Draft, Published}
-use Rattle.codes.specs.declared.edition.EditionChecked.{EditionChecked}
-use Rattle.codes.specs.declared.edition.EditionChecked.TheVariants as edition
-use Rattle.codes.specs.declared.matrix.Bond.{Bond}
-use Rattle.codes.specs.declared.matrix.Bond.TheVariants.{Bits, Free}
 use Rattle.codes.specs.declared.matrix.Matrix.{Matrix}
 use Rattle.codes.specs.declared.matrix.Matrix.TheVariants.{Served, Reserved, Unspecified, Unserved}
 use Rattle.setting.specs.Agreement.{bonded}
@@ -34,10 +30,10 @@ use Rattle.setting.proofs.ReadyLaws.{bonded_so}
 -- ---- what two tables have at one code
 
 -- no depths go with both
-abbrev Unlike : Bond → Bond → Type 0
-Unlike (Bits j) (Bits k) = j ≡ k → ⊥
-Unlike (Bits j) Free = ⊥
-Unlike Free c = ⊥
+abbrev Unlike : Option ℕ → Option ℕ → Type 0
+Unlike (Some j) (Some k) = j ≡ k → ⊥
+Unlike (Some j) None = ⊥
+Unlike None c = ⊥
 
 -- if both are served, then as one, or for other depths
 record Alike (m n : Matrix) : Type 0 where
@@ -49,10 +45,10 @@ same m = record { if_served = λ a b. inl refl }
 reserved : (n : Matrix) → Alike Reserved n
 reserved n = record { if_served = λ a b. absurd (omega arith) }
 
-unlike_turned : (b c : Bond) → Unlike b c → Unlike c b
-unlike_turned (Bits j) (Bits k) u = λ e. u (sym e)
-unlike_turned (Bits j) Free u = absurd u
-unlike_turned Free c u = absurd u
+unlike_turned : (b c : Option ℕ) → Unlike b c → Unlike c b
+unlike_turned (Some j) (Some k) u = λ e. u (sym e)
+unlike_turned (Some j) None u = absurd u
+unlike_turned None c u = absurd u
 
 turned : (m n : Matrix) → Alike m n → Alike n m
 turned m n f =
@@ -79,11 +75,11 @@ in_common [] xs ys f n = f n
 in_common (m ∷ ms) xs ys f zero = same m
 in_common (m ∷ ms) xs ys f (suc n) = in_common ms xs ys f n
 
-alike : (e f : EditionChecked) (code : ℕ) → Alike (matrix_by e code) (matrix_by f code)
+alike : (e f : Option Edition) (code : ℕ) → Alike (matrix_by e code) (matrix_by f code)
 unfolding matrix_of
-alike (edition.Edition e) (edition.Edition f) code = in_common common (added e) (added f) (own e f) code
-alike (edition.Edition e) edition.Unknown code = turned _ _ (reserved _)
-alike edition.Unknown f code = reserved _
+alike (Some e) (Some f) code = in_common common (added e) (added f) (own e f) code
+alike (Some e) None code = turned _ _ (reserved _)
+alike None f code = reserved _
 
 -- ---- what two editions make of one setting
 
@@ -93,21 +89,21 @@ is_served Reserved p q r = absurd (true≢false p)
 is_served Unspecified p q r = absurd (true≢false q)
 is_served Unserved p q r = absurd (true≢false r)
 
-pub past_matrix : (c : Call) (s : Setting) → first (setting_rules c s) ≡ Passed → standing (matrix_in s) ≡ 0
+pub past_matrix : (c : Call) (s : Setting) → first (setting_rules c s) ≡ Ok tt → standing (matrix_in s) ≡ 0
 past_matrix c s e =
     let t = passed_over _ _ (passed_over _ _ e).1 in
     let u = passed_over _ _ t.1 in
     is_served (matrix_in s) t.0 u.0 (passed_over _ _ u.1).0
 
-never_both : (a b : Bond) (d : Depths) (rgb ycc : Bool) → Unlike a b → bonded a d rgb ycc ≡ true → bonded b d rgb ycc ≡ true → ⊥
-never_both (Bits j) (Bits k) d rgb ycc u p q =
+never_both : (a b : Option ℕ) (d : Depths) (rgb ycc : Bool) → Unlike a b → bonded a d rgb ycc ≡ true → bonded b d rgb ycc ≡ true → ⊥
+never_both (Some j) (Some k) d rgb ycc u p q =
     let e = eqb-true d.luma.0 (d.rgb.0 + j) (both_true (eqb d.luma.0 (d.rgb.0 + j)) _ p).0 in
     let f = eqb-true d.luma.0 (d.rgb.0 + k) (both_true (eqb d.luma.0 (d.rgb.0 + k)) _ q).0 in
     u (omega arith)
-never_both (Bits j) Free d rgb ycc u p q = u
-never_both Free c d rgb ycc u p q = u
+never_both (Some j) None d rgb ycc u p q = u
+never_both None c d rgb ycc u p q = u
 
-pub same_served : (c : Call) (s : Setting) (n : ℕ) → first (setting_rules c s) ≡ Passed → first (setting_rules c (in_edition n s)) ≡ Passed
+pub same_served : (c : Call) (s : Setting) (n : ℕ) → first (setting_rules c s) ≡ Ok tt → first (setting_rules c (in_edition n s)) ≡ Ok tt
     → served (in_edition n s) ≡ served s
 same_served c s n p q =
     let t = in_edition n s in

@@ -1,4 +1,5 @@
 -- A setting that no rule refuses is ready: rules 6 and 7 say so of its depths, and the table of matrices of its formulas.
+use Rattle.std.specs.Prelude.{Option, Some, None, Ok}
 use mathlib.Core.Path.{◌≡◌, refl, sym, subst}
 use mathlib.Core.Bool.{Bool, true, true≢false}
 use Prim.Native.Nat.{ℕ, ◌+◌, ◌≤◌, ◌<◌}
@@ -11,7 +12,6 @@ use Rattle.sample.specs.declared.Depths.{Depths}
 use Rattle.sample.proofs.DepthLaws.{AtMost, depths_of_lem, at_most_of}
 use Rattle.sample.proofs.Choices.{both_true}
 use Rattle.refusal.specs.Rules.{first}
-use Rattle.refusal.specs.declared.Check.TheVariants.{Passed}
 use Rattle.refusal.proofs.RuleLaws.{passed_over}
 use Rattle.levels.specs.Conversion.{MatrixFits}
 use Rattle.levels.specs.Equations.{all_parts, weights}
@@ -19,12 +19,9 @@ use Rattle.levels.proofs.Bounds.{luma_fits, shares}
 use Rattle.codes.specs.Edition.{edition_of}
 use Rattle.codes.specs.Matrix.{luma_entry}
 use Rattle.codes.specs.Standing.{entry_of}
-use Rattle.codes.specs.declared.matrix.Bond.{Bond}
-use Rattle.codes.specs.declared.matrix.Bond.TheVariants.{Bits, Free}
 use Rattle.codes.specs.declared.matrix.Entry.{Entry}
 use Rattle.codes.specs.declared.matrix.Formulas.{Formulas}
 use Rattle.codes.specs.declared.matrix.Formulas.TheVariants.{ChangePlaces, YCgCo, Levels}
-use Rattle.codes.specs.declared.matrix.Lossless.TheVariants.{From, Never}
 use Rattle.codes.specs.declared.matrix.Matrix.{Matrix}
 use Rattle.codes.specs.declared.matrix.Matrix.TheVariants as matrix
 use Rattle.codes.proofs.Table.{at_code}
@@ -36,14 +33,14 @@ use Rattle.setting.specs.declared.Call.TheVariants as call
 use Rattle.setting.specs.declared.Setting.{Setting}
 
 -- what the table of matrices gives each kind of formulas
-abbrev Bound : Bond → Type 0
-Bound (Bits n) = Unit
-Bound Free = ⊥
+abbrev Bound : Option ℕ → Type 0
+Bound (Some n) = Unit
+Bound None = ⊥
 
 abbrev SoundAs : Formulas → Entry → Type 0
-SoundAs ChangePlaces e = (e.bond ≡ Bits 0) × (e.chroma_bits ≡ 0)
-SoundAs YCgCo e = Bound e.bond × (e.lossless ≡ From 1)
-SoundAs (Levels m) e = MatrixFits m × ((e.deepest ≡ most_level_depth) × (e.lossless ≡ Never))
+SoundAs ChangePlaces e = (e.bond ≡ Some 0) × (e.chroma_bits ≡ 0)
+SoundAs YCgCo e = Bound e.bond × (e.lossless ≡ Some 1)
+SoundAs (Levels m) e = MatrixFits m × ((e.deepest ≡ most_level_depth) × (e.lossless ≡ None))
 
 abbrev Sound : Matrix → Type 0
 Sound m = SoundAs (entry_of m).formulas (entry_of m)
@@ -55,21 +52,21 @@ sound : (s : Setting) → Sound (matrix_in s)
 sound s = at_code Sound (refl, refl) (search (luma_sound, rules) depth 60) (edition_of s.edition) s.matrix
 
 -- Y is no less deep than RGB where a bond binds them
-bond_holds : (b : Bond) (d : Depths) (rgb ycc : Bool) → Bound b → bonded b d rgb ycc ≡ true → d.rgb.0 ≤ d.luma.0
-bond_holds (Bits n) d rgb ycc k q =
+bond_holds : (b : Option ℕ) (d : Depths) (rgb ycc : Bool) → Bound b → bonded b d rgb ycc ≡ true → d.rgb.0 ≤ d.luma.0
+bond_holds (Some n) d rgb ycc k q =
     let e = eqb-true d.luma.0 (d.rgb.0 + n) (both_true (eqb d.luma.0 (d.rgb.0 + n)) _ q).0 in
     omega arith
-bond_holds Free d rgb ycc k q = absurd k
+bond_holds None d rgb ycc k q = absurd k
 
 -- the rules on depths and flags, where none applies
-module _ (call : Call) (s : Setting) (e : first (setting_rules call s) ≡ Passed) where
+module _ (call : Call) (s : Setting) (e : first (setting_rules call s) ≡ Ok tt) where
   abbrev d : Depths
   d = depths s
 
-  past_3 : first (entry_rules call (entry s) s) ≡ Passed
+  past_3 : first (entry_rules call (entry s) s) ≡ Ok tt
   past_3 = (passed_over _ _ (passed_over _ _ (passed_over _ _ (passed_over _ _ e).1).1).1).1
 
-  past_5 : first (depth_rules call (entry s) s) ≡ Passed
+  past_5 : first (depth_rules call (entry s) s) ≡ Ok tt
   past_5 = (passed_over _ _ (passed_over _ _ past_3).1).1
 
   rule_6 : depths_served (entry s).deepest s.rgb_depth s.y_depth s.c_depth ≡ true
@@ -102,7 +99,7 @@ module _ (call : Call) (s : Setting) (e : first (setting_rules call s) ≡ Passe
 
   agreed : (f : Formulas) → SoundAs f (entry s) → Agreed f (served s)
   agreed ChangePlaces k =
-      let q : bonded (Bits 0) d s.rgb_full s.ycc_full ≡ true = subst (λ b. bonded b d s.rgb_full s.ycc_full ≡ true) k.0 bonded_so in
+      let q : bonded (Some 0) d s.rgb_full s.ycc_full ≡ true = subst (λ b. bonded b d s.rgb_full s.ycc_full ≡ true) k.0 bonded_so in
       let r = eqb-true d.luma.0 (d.rgb.0 + 0) (both_true (eqb d.luma.0 (d.rgb.0 + 0)) _ q).0 in
       (omega arith, omega (arith, deeper.0, deeper.1, k.1))
   agreed YCgCo k = (bond_holds (entry s).bond d s.rgb_full s.ycc_full k.0 bonded_so, deeper.0)
@@ -124,7 +121,7 @@ module _ (call : Call) (s : Setting) (e : first (setting_rules call s) ≡ Passe
 keeping : (s : Setting) (f : Formulas) → SoundAs f (entry s) → keeps (entry s).lossless (depths s) ≡ true → Keeping f (served s)
 keeping s ChangePlaces k e = tt
 keeping s YCgCo k e = leb-true _ _ (subst (λ l. keeps l (depths s) ≡ true) k.1 e)
-keeping s (Levels m) k e = let q : keeps Never (depths s) ≡ true = subst (λ l. keeps l (depths s) ≡ true) k.1.1 e in true≢false (sym q)
+keeping s (Levels m) k e = let q : keeps None (depths s) ≡ true = subst (λ l. keeps l (depths s) ≡ true) k.1.1 e in true≢false (sym q)
 
-pub is_kept : (s : Setting) → first (setting_rules call.ImageCheck s) ≡ Passed → Keeps (served s)
+pub is_kept : (s : Setting) → first (setting_rules call.ImageCheck s) ≡ Ok tt → Keeps (served s)
 is_kept s e = keeping s (entry s).formulas (sound s) (rule_11 call.ImageCheck s e)

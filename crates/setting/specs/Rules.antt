@@ -1,25 +1,19 @@
 -- Rules 12, 1 to 7 and 11 on a setting, in the order in which they are tested. This is the one place that gives them.
-use Rattle.std.specs.Prelude.{Bool, true, false, not, cond, List, [], ◌∷◌, ℕ, eqb}
+use Rattle.std.specs.Prelude.{Bool, true, false, not, cond, List, [], ◌∷◌, ℕ, eqb, Option, Some, None, Result, Ok, Err}
 use Rattle.sample.specs.Depth.{depths_of}
 use Rattle.sample.specs.declared.Depths.{Depths}
-use Rattle.sample.specs.declared.DepthsChecked.{DepthsChecked}
-use Rattle.sample.specs.declared.DepthsChecked.TheVariants as checked
 use Rattle.refusal.specs.Rules.{Rule, rule, first}
-use Rattle.refusal.specs.declared.Check.{Check}
-use Rattle.refusal.specs.declared.Check.TheVariants as check
 use Rattle.codes.specs.Edition.{edition_of}
+use Rattle.codes.specs.declared.edition.Edition.{Edition}
 use Rattle.codes.specs.Label.{primaries_label, transfer_label, is_reserved}
 use Rattle.codes.specs.Standing.{standing, entry_of, matrix_by}
-use Rattle.codes.specs.declared.edition.EditionChecked.{EditionChecked}
-use Rattle.codes.specs.declared.edition.EditionChecked.TheVariants as edition
 use Rattle.codes.specs.declared.matrix.Entry.{Entry}
 use Rattle.codes.specs.declared.matrix.Matrix.{Matrix}
 use Rattle.setting.specs.Agreement.{depths_served, agree, answers}
 use Rattle.setting.specs.declared.Call.{Call}
 use Rattle.setting.specs.declared.Setting.{Setting}
-use Rattle.setting.specs.declared.admission.Admission.{Admission}
-use Rattle.setting.specs.declared.admission.Admission.TheVariants as admission
 use Rattle.setting.specs.declared.admission.Served.{Served}
+use Rattle.refusal.specs.declared.Refusal.{Refusal}
 
 -- what its matrix code means in its edition
 abbrev pub matrix_in : Setting → Matrix
@@ -55,9 +49,9 @@ matrix_rules call m s =
     ∷ entry_rules call (entry_of m) s
 
 -- the edition's own rule
-abbrev pub is_unknown : EditionChecked → Bool
-is_unknown (edition.Edition e) = false
-is_unknown edition.Unknown = true
+abbrev pub is_unknown : Option Edition → Bool
+is_unknown (Some e) = false
+is_unknown None = true
 
 abbrev pub edition_rule : ℕ → Rule
 edition_rule n = rule 12 (is_unknown (edition_of n))
@@ -67,8 +61,8 @@ abbrev pub setting_rules : Call → Setting → List Rule
 setting_rules call s = edition_rule s.edition ∷ matrix_rules call (matrix_in s) s
 
 -- rule 6's part: the depths, where they are served
-unfoldable pub served_depths : ℕ → ℕ → ℕ → ℕ → DepthsChecked
-served_depths deepest r y c = cond (depths_served deepest r y c) (checked.Depths (depths_of r y c)) checked.Outside
+unfoldable pub served_depths : ℕ → ℕ → ℕ → ℕ → Option Depths
+served_depths deepest r y c = cond (depths_served deepest r y c) (Some (depths_of r y c)) None
 
 -- a setting past its refusals
 abbrev pub served_by : Entry → Setting → Served
@@ -79,10 +73,10 @@ abbrev pub served : Setting → Served
 served s = served_by (entry s) s
 
 -- who is let in: what passed its rules, as what is served
-abbrev pub admitted : Check → Served → Admission
-admitted check.Passed x = admission.Admitted x
-admitted (check.Refused r) x = admission.Refused r
+abbrev pub admitted : Result Unit Refusal → Served → Result Served Refusal
+admitted (Ok u) x = Ok x
+admitted (Err r) x = Err r
 
 -- THE answer on a setting
-unfoldable pub setting_admission : Call → Setting → Admission
+unfoldable pub setting_admission : Call → Setting → Result Served Refusal
 setting_admission call s = admitted (first (setting_rules call s)) (served s)

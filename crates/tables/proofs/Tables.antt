@@ -7,8 +7,10 @@ use native.Mathlib.Nat.{add-zero, add-suc, eq-or-lt_of_le, le_of_suc-le-suc, not
 use native.Mathlib.Numerals.{add-one}
 use native.Mathlib.Omega.{arith}
 use lib.ListN.{length, get_or, take, drop, set, length-append, length-set, length-take, length-drop, get_or-append}
-use lib.Seq.{take-suc-set, take_all, take_at, get_or_at, get_or-take, get_or-drop}
-use Rattle.tables.specs.Table.{tab, patched}
+use lib.Seq.{ext_get_or, take-suc-set, take_all, take_at, get_or_at, get_or-take, get_or-drop}
+use Rattle.std.specs.Prelude.{replicate}
+use Rattle.std.proofs.lemmas.List.{get_or-replicate, length-replicate}
+use Rattle.tables.specs.Table.{tab, patched, zeros}
 
 pub length_tab : (n : ℕ) (f : ℕ → ℕ) → length (tab n f) ≡ n
 unfolding tab
@@ -28,6 +30,12 @@ tab_at (suc n) f i h =
     (λ (q : i ≡ n). rw q (get_or_at (tab n f) (f n) [] 0 n (length_tab n f)))
     (λ (l : i < n). get_or-append (tab n f) (f n ∷ []) 0 i (omega (arith, length_tab n f)) ∙ tab_at n f i l)
     (eq-or-lt_of_le (le_of_suc-le-suc h))
+
+-- a list that is 0 throughout, as the library writes it
+pub zeros_are : (n : ℕ) → replicate n 0 ≡ zeros n
+zeros_are n =
+    ext_get_or 0 (replicate n 0) (zeros n) (length-replicate {A = ℕ} n 0 ∙ sym (length_tab n _))
+    (λ i b. let h : i < n = omega (arith, length-replicate {A = ℕ} n 0) in get_or-replicate n i 0 0 h ∙ sym (tab_at n _ i h))
 
 -- a table in two parts
 tab_split : (f : ℕ → ℕ) (a n : ℕ) → tab (a + n) f ≡ tab a f ++ tab n (λ (i : ℕ). f (a + i))

@@ -1,17 +1,21 @@
 -- Where a word ends, the rest of a text begins: so words found one after the other are the words of the whole.
 use mathlib.Core.Path.{◌≡◌, refl, sym, ap, ◌∙◌}
-use mathlib.Core.Bool.{Bool, true, false, true≢false, cond, ◌&&◌}
+use mathlib.Core.Bool.{Bool, true, false, cond, not, ◌&&◌}
 use mathlib.Core.List.{List, [], ◌∷◌}
-use Prim.Native.Nat.{ℕ, zero, suc, ◌+◌, ◌-◌, ◌≤◌, ◌<◌}
+use Prim.Native.Nat.{ℕ, suc, ◌+◌, ◌-◌, ◌≤◌, ◌<◌}
 use native.Mathlib.Decide.{dec_lt}
 use native.Mathlib.Nat.{add-zero}
-use native.Mathlib.Numerals.{add-one}
+use native.Mathlib.Numerals.{add-one, one-add}
 use native.Mathlib.Omega.{arith}
-use borrow.Author.Tests.{eq-eqb, ne_eqb, eqb-true, lt-ltb, le-ltb}
+use borrow.Author.Tests.{eq-eqb, ne_eqb, lt-ltb, le-ltb}
 use lib.Dec.{eqb, ltb}
+use lib.Pointwise.{pointwise}
 use lib.ListN.{length, get_or, take, drop, length-drop, drop_of_length-le}
-use lib.Seq.{drop-cons, drop-drop, get_or-drop}
-use Rattle.text.specs.Words.{begun, split, word_of, before, end_of, same_word, index_in, start_of, Next, Starts}
+use lib.Seq.{drop-drop, get_or-drop, take_all}
+use Rattle.std.specs.Prelude.{Option, Some, None, option_map, position}
+use Rattle.std.specs.List.{position_or_len}
+use Rattle.std.proofs.lemmas.List.Recursion.{is_position_or_len}
+use Rattle.text.specs.Words.{begun, split, word_of, before, same_word, index_in, After}
 
 -- the bytes before the first gap, one byte at a time
 before_gap : (gap b : ℕ) (s : List ℕ) → b ≡ gap → before gap (b ∷ s) ≡ 0
@@ -30,23 +34,6 @@ before_most gap (b ∷ s) = go (eqb b gap) (before_most gap s)
     go : (t : Bool) → before gap s ≤ length s → cond t 0 (suc (before gap s)) ≤ length (b ∷ s)
     go true h = omega arith
     go false h = omega arith
-
-module _ (gap : ℕ) (s : List ℕ) where
-  pub end_here : (i : ℕ) → i < length s → get_or s i 0 ≡ gap → end_of gap s i ≡ i
-  end_here i h e = let z = before_gap gap (get_or s i 0) (drop (suc i) s) e in rw (drop-cons s i 0 h) (omega arith)
-
-  pub end_on : (i : ℕ) → i < length s → (get_or s i 0 ≡ gap → ⊥) → end_of gap s i ≡ end_of gap s (i + 1)
-  end_on i h f =
-      let z = before_other gap (get_or s i 0) (drop (suc i) s) f in
-      rw (drop-cons s i 0 h, add-one i) (omega arith)
-
-  pub end_over : (i : ℕ) → length s ≤ i → end_of gap s i ≡ i
-  unfolding before
-  end_over i h = rw (drop_of_length-le s h) (omega arith)
-
-  -- no further than the text's end, unless it began there
-  pub end_within : (i : ℕ) → i ≤ length s → end_of gap s i ≤ length s
-  end_within i h = omega (arith, before_most gap (drop i s), length-drop i s)
 
 -- the first word, and the words after it
 first_word : (gap b : ℕ) (s : List ℕ)
@@ -68,112 +55,126 @@ first_word gap b (c ∷ s) = go (eqb b gap) (first_word gap c s)
     go true e = refl
     go false e = ap (begun b) e
 
-module _ (gap : ℕ) (s : List ℕ) where
-  split_step : (at : ℕ) → at < length s
-      → split gap (drop at s) ≡ take (end_of gap s at - at) (drop at s) ∷ split gap (drop (end_of gap s at + 1) s)
-  split_step at h =
-      let b = get_or s at 0 in
-      let r = drop (suc at) s in
-      let l : drop at s ≡ b ∷ r = drop-cons s at 0 h in
-      let k : end_of gap s at - at ≡ before gap (drop at s) = omega arith in
-      let j : end_of gap s at + 1 ≡ at + suc (before gap (drop at s)) = omega arith in
-      rw (k, j, ← drop-drop (suc (before gap (drop at s))) at s, l) (first_word gap b r)
+module _ (gap : ℕ) where
+  before_is : (s : List ℕ) → before gap s ≡ position_or_len (λ b. eqb b gap) s
+  unfolding before
+  before_is = is_position_or_len (before gap) (λ b. eqb b gap) refl (λ x xs. rw (one-add (before gap xs)) refl)
 
-  split_over : (at : ℕ) → length s ≤ at → split gap (drop at s) ≡ []
+  -- a gap stands where the first word ends
+  pub gap_there : (s : List ℕ) (e : ℕ) → position (λ b. eqb b gap) s ≡ Some e → (before gap s ≡ e) × (e < length s)
+  gap_there s e h = go (dec_lt (position_or_len (λ b. eqb b gap) s) (length s)) h
+    where
+      go : Dec (position_or_len (λ b. eqb b gap) s < length s)
+          → cond (ltb (position_or_len (λ b. eqb b gap) s) (length s)) (Some (position_or_len (λ b. eqb b gap) s)) None ≡ Some e
+          → (before gap s ≡ e) × (e < length s)
+      go (yes l) h = let f : position_or_len (λ b. eqb b gap) s ≡ e = (let g = rw (lt-ltb _ _ l) at h in cc) in (before_is s ∙ f, omega arith)
+      go (no n) h = absurd (let f = rw (le-ltb (position_or_len (λ b. eqb b gap) s) (length s) (omega arith)) at h in cc)
+
+  -- without one it is the whole text
+  pub gap_nowhere : (s : List ℕ) → position (λ b. eqb b gap) s ≡ None → before gap s ≡ length s
+  gap_nowhere s h = go (dec_lt (position_or_len (λ b. eqb b gap) s) (length s)) h
+    where
+      go : Dec (position_or_len (λ b. eqb b gap) s < length s)
+          → cond (ltb (position_or_len (λ b. eqb b gap) s) (length s)) (Some (position_or_len (λ b. eqb b gap) s)) None ≡ None
+          → before gap s ≡ length s
+      go (yes l) h = absurd (let f = rw (lt-ltb (position_or_len (λ b. eqb b gap) s) (length s) l) at h in cc)
+      go (no n) h = omega (arith, before_is s, before_most gap s)
+
+  -- the first word of a text
+  pub word_here : (s : List ℕ) → take (before gap s) s ≡ word_of gap s 0
+  unfolding split before
+  word_here [] = refl
+  word_here (b ∷ s) = rw (first_word gap b s)
+
+  -- the words behind it
+  rest_words : (s : List ℕ) → split gap (drop (before gap s + 1) s) ≡ drop 1 (split gap s)
+  unfolding split before
+  rest_words [] = refl
+  rest_words (b ∷ s) = rw (add-one (before gap (b ∷ s)), first_word gap b s)
+
+  pub after : (s rest : List ℕ) → rest ≡ drop (before gap s + 1) s → After gap s rest
+  after s rest e = record {
+    is = e;
+    words = rw e (rest_words s);
+    within = omega (arith, ap length e, length-drop (before gap s + 1) s);
+    onward = λ h. omega (arith, ap length e, length-drop (before gap s + 1) s);
+  }
+
+  -- by where the gap is
+  pub word_to : (s : List ℕ) (e : ℕ) → position (λ b. eqb b gap) s ≡ Some e → take e s ≡ word_of gap s 0
+  word_to s e h = rw (← (gap_there s e h).0) (word_here s)
+
+  pub word_all : (s : List ℕ) → position (λ b. eqb b gap) s ≡ None → s ≡ word_of gap s 0
+  word_all s h = sym (take_all (length s) s (omega arith)) ∙ rw (← gap_nowhere s h) (word_here s)
+
+  pub after_gap : (s : List ℕ) (e : ℕ) → position (λ b. eqb b gap) s ≡ Some e → After gap s (take (length s - (e + 1)) (drop (e + 1) s))
+  after_gap s e h = after s _ (take_all (length s - (e + 1)) (drop (e + 1) s) (omega (arith, length-drop (e + 1) s)) ∙ rw (gap_there s e h).0 refl)
+
+  pub after_none : (s : List ℕ) → position (λ b. eqb b gap) s ≡ None → After gap s []
+  after_none s h = after s [] (let l : length s ≤ before gap s + 1 = omega (arith, gap_nowhere s h) in sym (drop_of_length-le s l))
+
+  -- words counted from the front
+  pub one_fewer : (s t u : List ℕ) (n : ℕ) → split gap t ≡ drop n (split gap s) → After gap t u → split gap u ≡ drop (n + 1) (split gap s)
+  one_fewer s t u n e f = f.words ∙ ap (drop 1) e ∙ drop-drop 1 n (split gap s)
+
+  pub word_skipped : (s t : List ℕ) (n : ℕ) → split gap t ≡ drop n (split gap s) → word_of gap t 0 ≡ word_of gap s n
+  word_skipped s t n e = ap (λ (l : List (List ℕ)). get_or l 0 []) e ∙ get_or-drop n (split gap s) 0 [] ∙ rw (add-zero n)
+
+  some_word : (b : ℕ) (s : List ℕ) → 0 < length (split gap (b ∷ s))
+  some_word b s = rw (first_word gap b s) (omega arith)
+
+  pub word_there : (s t : List ℕ) (n : ℕ) → split gap t ≡ drop n (split gap s) → not (eqb (length t) 0) ≡ ltb n (length (split gap s))
   unfolding split
-  split_over at h = rw (drop_of_length-le s h)
-
--- the word at a position
-module _ (gap : ℕ) (s : List ℕ) (at : ℕ) where
-  pub word_here : at < length s → take (end_of gap s at - at) (drop at s) ≡ word_of gap (drop at s) 0
-  word_here h = rw (split_step gap s at h)
-
-  pub word_none : length s ≤ at → [] ≡ word_of gap (drop at s) 0
-  word_none h = rw (split_over gap s at h)
-
-  words_from : at < length s → split gap (drop at s) ≡ word_of gap (drop at s) 0 ∷ drop 1 (split gap (drop at s))
-  words_from h = rw (split_step gap s at h)
-
--- the words after it
-module _ (gap : ℕ) (s : List ℕ) (at : ℕ) where
-  pub next_word : end_of gap s at < length s → Next gap s at (end_of gap s at + 1)
-  next_word h = record { is = omega arith; rest = rw (split_step gap s at (omega arith)); within = omega arith; onward = λ l. omega arith }
-
-  pub next_none : length s ≤ end_of gap s at → Next gap s at (length s)
-  next_none h = record { is = omega arith; rest = go (dec_lt at (length s)); within = omega arith; onward = λ l. omega arith }
-    where
-      go : Dec (at < length s) → split gap (drop (length s) s) ≡ drop 1 (split gap (drop at s))
-      go (yes l) = rw (split_over gap s (length s) (omega arith), split_step gap s at l, split_over gap s (end_of gap s at + 1) (omega arith))
-      go (no f) = rw (split_over gap s (length s) (omega arith), split_over gap s at (omega arith))
-
--- words counted from the front
--- no word starts past the text's end
-pub start_within : (gap : ℕ) (s : List ℕ) (n : ℕ) → start_of gap s n ≤ length s
-unfolding start_of
-start_within gap s zero = omega arith
-start_within gap s (suc n) = omega arith
-
-pub starts_first : (gap : ℕ) (s : List ℕ) → Starts gap s 0 0
-unfolding start_of
-starts_first gap s = record { is = refl; words = refl }
-
-module _ (gap : ℕ) (s : List ℕ) (n start : ℕ) (e : Starts gap s n start) where
-  pub next_starts : (next : ℕ) → Next gap s start next → Starts gap s (n + 1) next
-  unfolding start_of
-  next_starts next f =
-      record { is = rw (add-one n, ← e.is) f.is; words = f.rest ∙ ap (drop 1) e.words ∙ drop-drop 1 n (split gap s) }
-
-  pub starts_word : word_of gap (drop start s) 0 ≡ word_of gap s n
-  starts_word = ap (λ (l : List (List ℕ)). get_or l 0 []) e.words ∙ get_or-drop n (split gap s) 0 [] ∙ rw (add-zero n)
-
-  pub starts_there : ltb start (length s) ≡ ltb n (length (split gap s))
-  starts_there = go (dec_lt start (length s))
-    where
-      left : length (split gap (drop start s)) ≡ length (split gap s) - n
-      left = ap length e.words ∙ length-drop n (split gap s)
-
-      go : Dec (start < length s) → ltb start (length s) ≡ ltb n (length (split gap s))
-      go (yes h) = lt-ltb _ _ h ∙ sym (lt-ltb n (length (split gap s)) (omega (arith, left, ap length (split_step gap s start h))))
-      go (no f) =
-          let h : length s ≤ start = omega arith in
-          le-ltb _ _ h ∙ sym (le-ltb n (length (split gap s)) (omega (arith, left, ap length (split_over gap s start h))))
+  word_there s [] n e = sym (le-ltb n (length (split gap s)) (omega (arith, ap length e, length-drop n (split gap s))))
+  word_there s (b ∷ t) n e =
+      ap not (ne_eqb (length (b ∷ t)) 0 (λ q. omega arith))
+      ∙ sym (lt-ltb n (length (split gap s)) (omega (arith, ap length e, length-drop n (split gap s), some_word b t)))
 
 -- equal words
-same_self : (w : List ℕ) → same_word w w ≡ true
+same_bytes : (v w : List ℕ) → pointwise eqb v w ≡ same_word v w
 unfolding same_word
-same_self [] = refl
-same_self (b ∷ w) = rw (eq-eqb b b refl, same_self w)
+same_bytes [] [] = refl
+same_bytes [] (c ∷ w) = refl
+same_bytes (b ∷ v) [] = refl
+same_bytes (b ∷ v) (c ∷ w) = ap (λ t. eqb b c && t) (same_bytes v w)
 
-same_means : (v w : List ℕ) → same_word v w ≡ true → v ≡ w
-unfolding same_word
-same_means [] [] e = refl
-same_means [] (c ∷ w) e = absurd (true≢false cc)
-same_means (b ∷ v) [] e = absurd (true≢false cc)
-same_means (b ∷ v) (c ∷ w) e = go (eqb b c) refl e (same_means v w)
+-- the place of a word among two
+pub place_of_two : (w u v : List ℕ) → index_in w (u ∷ v ∷ []) ≡ cond (pointwise eqb w u) (Some 0) (cond (pointwise eqb w v) (Some 1) None)
+unfolding index_in
+place_of_two w u v = rw (same_bytes w u, same_bytes w v) (go (same_word w u) (same_word w v))
   where
-    go : (t : Bool) → eqb b c ≡ t → t && same_word v w ≡ true → (same_word v w ≡ true → v ≡ w) → b ∷ v ≡ c ∷ w
-    go true f e rest = let p = eqb-true b c f in let q = rest e in cc
-    go false f e rest = absurd (true≢false cc)
+    go : (a b : Bool) → cond a (Some 0) (option_map suc (cond b (Some 0) (option_map suc None))) ≡ cond a (Some 0) (cond b (Some 1) None)
+    go true b = refl
+    go false true = refl
+    go false false = refl
 
-pub same_is : (v w : List ℕ) (t : Bool) → (t ≡ true → v ≡ w) → (v ≡ w → t ≡ true) → t ≡ same_word v w
-same_is v w true f g = rw (← f refl) (sym (same_self v))
-same_is v w false f g = go (same_word v w) refl
-  where
-    go : (u : Bool) → same_word v w ≡ u → false ≡ same_word v w
-    go true e = g (same_means v w e) ∙ sym e
-    go false e = sym e
+-- a place that is counted from further on
+abbrev pub further : ℕ → Option ℕ → Option ℕ
+further n None = None
+further n (Some k) = Some (n + k)
+
+pub further_none : (o : Option ℕ) → further 0 o ≡ o
+further_none None = refl
+further_none (Some k) = ap Some (omega arith)
+
+further_one : (n : ℕ) (o : Option ℕ) → further n (option_map suc o) ≡ further (n + 1) o
+further_one n None = refl
+further_one n (Some k) = ap Some (omega arith)
 
 -- the place of a word among words found one after the other
-module _ (names w : List ℕ) (at : ℕ) where
-  pub place_here : at < length names → same_word w (word_of 32 (drop at names) 0) ≡ true → index_in w (split 32 (drop at names)) ≡ 0
+module _ (gap : ℕ) (w : List ℕ) (n : ℕ) where
+  pub place_here : (s : List ℕ) → 0 < length s → pointwise eqb w (word_of gap s 0) ≡ true → further n (index_in w (split gap s)) ≡ Some n
   unfolding index_in
-  place_here h e = rw (words_from 32 names at h, e)
+  place_here [] h e = absurd (omega arith)
+  place_here (b ∷ s) h e = rw (first_word gap b s, ← same_bytes, rw (first_word gap b s) at e) (ap Some (omega arith))
 
-  pub place_on : (next : ℕ) → at < length names → same_word w (word_of 32 (drop at names) 0) ≡ false → Next 32 names at next
-      → index_in w (split 32 (drop at names)) ≡ suc (index_in w (split 32 (drop next names)))
+  pub place_on : (s t : List ℕ) → 0 < length s → pointwise eqb w (word_of gap s 0) ≡ false → After gap s t
+      → further n (index_in w (split gap s)) ≡ further (n + 1) (index_in w (split gap t))
   unfolding index_in
-  place_on next h e f = rw (f.rest, words_from 32 names at h, e)
+  place_on [] t h e f = absurd (omega arith)
+  place_on (b ∷ s) t h e f = rw (f.words, first_word gap b s, ← same_bytes, rw (first_word gap b s) at e) (further_one n _)
 
-  pub place_over : length names ≤ at → index_in w (split 32 (drop at names)) ≡ 0
-  unfolding index_in
-  place_over h = rw (split_over 32 names at h)
+  pub place_over : (s : List ℕ) → length s ≡ 0 → further n (index_in w (split gap s)) ≡ None
+  unfolding index_in split
+  place_over [] h = refl
+  place_over (b ∷ s) h = absurd (omega arith)

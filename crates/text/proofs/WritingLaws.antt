@@ -1,10 +1,11 @@
 -- Writing one text and then another is writing the two as one, however little room there is.
 use mathlib.Core.Path.{◌≡◌, refl, sym, ap, ◌∙◌, subst}
 use mathlib.Core.List.{List, [], ◌∷◌, ◌++◌}
-use Prim.Native.Nat.{ℕ, zero, suc, ◌+◌, ◌≤◌, ◌<◌}
-use native.Mathlib.Numerals.{add-one}
+use Prim.Native.Nat.{ℕ, zero, suc, ◌+◌, ◌-◌, ◌≤◌, min}
 use native.Mathlib.Omega.{arith}
-use lib.ListN.{length, set}
+use borrow.Rule.Slice.PartMut.{put_mid}
+use lib.ListN.{length, take, drop}
+use lib.Seq.{drop-drop}
 use Rattle.text.specs.Writing.{Page, page, behind, wrote, Wrote}
 
 both : (o : List ℕ) (at : ℕ) (a b : List ℕ) → wrote (wrote o at a).bytes (wrote o at a).next b ≡ wrote o at (a ++ b)
@@ -37,15 +38,26 @@ wrote_full (x ∷ o) (suc at) t h = ap (behind x) (wrote_full o at t (omega arit
 pub full : (o : List ℕ) (at : ℕ) (t : List ℕ) → length o ≤ at → Wrote o at t o at
 full o at t h = record { is = wrote_full o at t h }
 
--- one byte
-wrote_byte : (o : List ℕ) (at b : ℕ) → at < length o → page (set o at b) (suc at) ≡ wrote o at (b ∷ [])
+-- as much as there is room for
+wrote_part : (o : List ℕ) (at : ℕ) (t : List ℕ) (n k : ℕ) → at ≤ length o → n ≡ min (length t) (length o - at) → k ≡ at + n
+    → page (take at o ++ (take n t ++ drop k o)) k ≡ wrote o at t
 unfolding wrote
-wrote_byte [] at b h = absurd (omega arith)
-wrote_byte (x ∷ o) zero b h = ap (behind b) (wrote_none o zero)
-wrote_byte (x ∷ o) (suc at) b h = ap (behind x) (wrote_byte o at b (omega arith))
+wrote_part [] zero t zero zero h e f = refl
+wrote_part [] zero t zero (suc k) h e f = absurd (omega arith)
+wrote_part [] zero t (suc n) k h e f = absurd (omega arith)
+wrote_part [] (suc at) t n k h e f = absurd (omega arith)
+wrote_part (b ∷ o) zero [] zero zero h e f = refl
+wrote_part (b ∷ o) zero [] zero (suc k) h e f = absurd (omega arith)
+wrote_part (b ∷ o) zero [] (suc n) k h e f = absurd (omega arith)
+wrote_part (b ∷ o) zero (c ∷ t) zero k h e f = absurd (omega arith)
+wrote_part (b ∷ o) zero (c ∷ t) (suc n) zero h e f = absurd (omega arith)
+wrote_part (b ∷ o) zero (c ∷ t) (suc n) (suc k) h e f = ap (behind c) (wrote_part o zero t n k (omega arith) (omega arith) (omega arith))
+wrote_part (b ∷ o) (suc at) t n zero h e f = absurd (omega arith)
+wrote_part (b ∷ o) (suc at) t n (suc k) h e f = ap (behind b) (wrote_part o at t n k (omega arith) (omega arith) (omega arith))
 
-pub byte : (o : List ℕ) (at b : ℕ) → at < length o → Wrote o at (b ∷ []) (set o at b) (at + 1)
-byte o at b h = record { is = rw add-one (wrote_byte o at b h) }
+pub part : (o : List ℕ) (at : ℕ) (t : List ℕ) (n m : ℕ) → at ≤ length o → n ≡ min (length t) (length o - at) → m ≡ n
+    → Wrote o at t (put_mid at m o (take n t)) (at + n)
+part o at t n m h e f = record { is = rw (f, drop-drop n at o) (wrote_part o at t n (at + n) h e refl) }
 
 -- a position inside the buffer stays inside it
 next_inside : (o : List ℕ) (at : ℕ) (t : List ℕ) → at ≤ length o → (wrote o at t).next ≤ length o

@@ -1,7 +1,5 @@
 -- Numbers as their digits.
-use Rattle.std.specs.Prelude.{Bool, true, cond, ◌&&◌, List, [], ◌∷◌, ℕ, ◌+◌, ◌-◌, ◌*◌, leb, ltb, length}
-use Rattle.text.specs.declared.reading.Number.{Number}
-use Rattle.text.specs.declared.reading.Number.TheVariants as number
+use Rattle.std.specs.Prelude.{Bool, true, cond, ◌&&◌, List, [], ◌∷◌, ℕ, ◌+◌, ◌-◌, ◌*◌, leb, ltb, length, Option, Some, None}
 
 -- the number that digits stand for, after some that stood for `high`
 unfoldable pub value_of : ℕ → List ℕ → ℕ
@@ -13,6 +11,6 @@ all_digits [] = true
 all_digits (b ∷ w) = (leb 48 b && leb b 57) && all_digits w
 
 -- a word of digits alone that stand for a number up to `most`
-unfoldable pub number_of : List ℕ → ℕ → Number
+unfoldable pub number_of : List ℕ → ℕ → Option ℕ
 number_of w most =
-    cond (ltb 0 (length w) && (all_digits w && leb (value_of 0 w) most)) (number.Value (value_of 0 w)) number.Nothing
+    cond (ltb 0 (length w) && (all_digits w && leb (value_of 0 w) most)) (Some (value_of 0 w)) None

@@ -1,150 +1,109 @@
 // Reading a text that is split into words by one byte, the gap: a blank between words, or a line's end between lines.
-ghost use Rattle.std.specs.Prelude.{◌≡◌, length, drop, ltb};
-ghost use Rattle.text.specs.Words.{split, word_of, end_of, same_word, index_in, Next, Starts};
+ghost use Rattle.std.specs.Prelude.{◌≡◌, ◌≤◌, ◌==◌, IfSome, length, drop, ltb, position};
+ghost use Rattle.text.specs.Words.{split, word_of, index_in, After};
 ghost use Rattle.text.specs.Numerals.{number_of};
 
-// A decimal number that isn't too large, or anything else.
+// A text, and the byte between its words.
 #[derive(Clone, Copy)]
-pub enum Number {
-    Value(u64),
-    Nothing,
+pub struct Words<'a> {
+    pub text: &'a [u8],
+    pub gap: u8,
 }
 
-// The position of the first gap from `at` on, or the text's end.
-fn end_of(s: &[u8], gap: u8, at: usize) -> usize
-    ensures { result ≡ end_of gap s.now at }
-{
-    let mut i = at;
-    while i < s.len() {
-        if s[i] == gap {
-            return i;
+impl<'a> Words<'a> {
+    // Where the first gap stands.
+    fn first_gap(self) -> Option<usize>
+        ensures { result ≡ position (λ b. b == self.entry.gap) self.entry.text.now }
+    {
+        self.text.iter().position(|&b| b == self.gap)
+    }
+
+    // The first word, or an empty part where there is none.
+    pub fn first(self) -> &'a [u8]
+        ensures { result.now ≡ word_of self.entry.gap self.entry.text.now 0 }
+    {
+        match self.first_gap() {
+            Some(end) => &self.text[..end],
+            None => self.text,
         }
-        i += 1;
     }
-    i
-}
 
-// Where the word after the one at `at` starts, or the text's end.
-pub fn next_of(s: &[u8], gap: u8, at: usize) -> usize
-    ensures { Next gap s.now at result }
-{
-    let end = end_of(s, gap, at);
-    if end < s.len() {
-        return end + 1;
+    // The words behind the first one.
+    pub fn rest(self) -> Words<'a>
+        ensures after { After self.entry.gap self.entry.text.now result.text.now }
+        ensures gap { result.gap ≡ self.entry.gap }
+    {
+        let text = match self.first_gap() {
+            Some(end) => &self.text[end + 1..],
+            None => &[],
+        };
+        Words { text, ..self }
     }
-    s.len()
-}
 
-// Where word n starts, counted from 0, or the text's end.
-pub fn start_of(s: &[u8], gap: u8, n: u8) -> usize
-    ensures { Starts gap s.now n result }
-{
-    let mut start = 0;
-    for _ in 0..n {
-        start = next_of(s, gap, start);
-    }
-    start
-}
-
-// The text from word n on, or an empty part where there is none.
-pub fn words_from(s: &[u8], gap: u8, n: u8) -> &[u8]
-    ensures { split gap result.now ≡ drop n (split gap s.now) }
-{
-    let start = start_of(s, gap, n);
-    &s[start..]
-}
-
-// The word that starts at a position, or an empty part at the text's end.
-pub fn word_from(s: &[u8], gap: u8, at: usize) -> &[u8]
-    ensures { result.now ≡ word_of gap (drop at s.now) 0 }
-{
-    if at < s.len() {
-        let end = end_of(s, gap, at);
-        return &s[at..end];
-    }
-    &s[..0]
-}
-
-// Word n, or an empty part where there is none.
-pub fn word_at(s: &[u8], gap: u8, n: u8) -> &[u8]
-    ensures { result.now ≡ word_of gap s.now n }
-{
-    word_from(s, gap, start_of(s, gap, n))
-}
-
-pub fn has_word(s: &[u8], gap: u8, n: u8) -> bool
-    ensures { result ≡ ltb n (length (split gap s.now)) }
-{
-    start_of(s, gap, n) < s.len()
-}
-
-// Whether two words are the same.
-fn same_word(a: &[u8], b: &[u8]) -> bool
-    ensures { result ≡ same_word a.now b.now }
-{
-    check::same(a, b)
-}
-
-// The place of a word among names with one blank between them, counted from 0; how many names there are if it is none of them.
-fn place_among(names: &[u8], word: &[u8]) -> usize
-    ensures { result ≡ index_in word.now (split 32 names.now) }
-{
-    let mut n = 0;
-    let mut at = 0;
-    while at < names.len() {
-        if same_word(word, word_from(names, b' ', at)) {
-            return n;
+    // The words from word n on, counted from 0.
+    pub fn skip(self, n: u8) -> Words<'a>
+        ensures words { split self.entry.gap result.text.now ≡ drop n (split self.entry.gap self.entry.text.now) }
+        ensures gap { result.gap ≡ self.entry.gap }
+    {
+        let mut words = self;
+        for _ in 0..n {
+            words = words.rest();
         }
-        at = next_of(names, b' ', at);
-        n += 1;
+        words
     }
-    n
+
+    // Word n, or an empty part where there is none.
+    pub fn word(self, n: u8) -> &'a [u8]
+        ensures { result.now ≡ word_of self.entry.gap self.entry.text.now n }
+    {
+        self.skip(n).first()
+    }
+
+    pub fn has_word(self, n: u8) -> bool
+        ensures { result ≡ ltb n (length (split self.entry.gap self.entry.text.now)) }
+    {
+        !self.skip(n).text.is_empty()
+    }
+
+    // The place of a word among these, counted from 0.
+    pub fn place(self, word: &[u8]) -> Option<usize>
+        ensures { result ≡ index_in word.now (split self.entry.gap self.entry.text.now) }
+    {
+        let mut names = self;
+        let mut n = 0;
+        while !names.text.is_empty() {
+            if word == names.first() {
+                return Some(n);
+            }
+            names = names.rest();
+            n += 1;
+        }
+        None
+    }
+
+    // Word n as a number from 0 to `most`.
+    pub fn number(self, n: u8, most: u64) -> Option<u64>
+        ensures value { result ≡ number_of (word_of self.entry.gap self.entry.text.now n) most }
+        ensures value_le_most { IfSome result (λ v. v ≤ most) }
+    {
+        number_in(self.word(n), most)
+    }
 }
 
 // A word as a number from 0 to `most`.
-fn number_in(word: &[u8], most: u64) -> Number
-    ensures { result ≡ number_of word.now most }
+pub fn number_in(word: &[u8], most: u64) -> Option<u64>
+    ensures value { result ≡ number_of word.now most }
+    ensures value_le_most { IfSome result (λ v. v ≤ most) }
 {
-    if word.len() == 0 {
-        return Number::Nothing;
+    if word.is_empty() {
+        return None;
     }
     let mut value: u64 = 0;
-    for i in 0..word.len() {
-        let b = word[i];
-        if b < b'0' {
-            return Number::Nothing;
+    for &b in word {
+        if !b.is_ascii_digit() {
+            return None;
         }
-        if b'9' < b {
-            return Number::Nothing;
-        }
-        let digit = (b - b'0') as u64;
-        if most / 10 < value {
-            return Number::Nothing;
-        }
-        let tens = value * 10;
-        if most - tens < digit {
-            return Number::Nothing;
-        }
-        value = tens + digit;
+        value = value.checked_mul(10)?.checked_add(u64::from(b - b'0'))?;
     }
-    Number::Value(value)
-}
-
-// The word that starts at a position as a number from 0 to `most`.
-pub fn number_from(s: &[u8], gap: u8, at: usize, most: u64) -> Number
-    ensures { result ≡ number_of (word_of gap (drop at s.now) 0) most }
-{
-    number_in(word_from(s, gap, at), most)
-}
-
-pub fn number_at(s: &[u8], gap: u8, n: u8, most: u64) -> Number
-    ensures { result ≡ number_of (word_of gap s.now n) most }
-{
-    number_from(s, gap, start_of(s, gap, n), most)
-}
-
-pub fn place_at(s: &[u8], gap: u8, n: u8, names: &[u8]) -> usize
-    ensures { result ≡ index_in (word_of gap s.now n) (split 32 names.now) }
-{
-    place_among(names, word_at(s, gap, n))
+    if most < value { None } else { Some(value) }
 }

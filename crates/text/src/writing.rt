@@ -4,13 +4,10 @@ ghost use Rattle.text.specs.Writing.{Wrote};
 pub fn put(out: &mut [u8], at: usize, word: &[u8]) -> usize
     ensures { Wrote out.old at word.now out.new result }
 {
-    let mut to = at;
-    for i in 0..word.len() {
-        if out.len() <= to {
-            return to;
-        }
-        out[to] = word[i];
-        to += 1;
+    if out.len() <= at {
+        return at;
     }
-    to
+    let n = word.len().min(out.len() - at);
+    out[at..at + n].copy_from_slice(&word[..n]);
+    at + n
 }

@@ -6,7 +6,7 @@ ghost use Rattle.sample.specs.Depth.{InsideRGB};
 ghost use Rattle.ycgco.specs.YCgCo.{lossy_forward, lossy_reverse, lossless_forward, lossless_reverse, LossyDepths, LosslessDepths};
 
 use rounding::narrow;
-use sample::{Depths, Pixel};
+use sample::{Depths, Pixel, SampleDepth};
 
 // 48 to 50
 pub fn lossy_forward(d: Depths, p: Pixel) -> Pixel

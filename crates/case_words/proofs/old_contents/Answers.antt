@@ -5,16 +5,12 @@ use Rattle.case_words.specs.Lines.{old_sample}
 use Rattle.case_words.proofs.old_contents.Goals as goal
 
 pub loop-i-init : goal.loop-i-init
-loop-i-init c = record { within = omega arith; value = omega arith; filled = filled_none _ _ _ refl }
+loop-i-init c = record { value = omega arith; filled = filled_none _ _ _ refl }
 
 pub loop-i-preserved : goal.loop-i-preserved
 loop-i-preserved c =
     let v = c.loop-i.invariant in
-    record {
-      within = omega arith;
-      value = omega arith;
-      filled = filled_more (old_sample c.args.fill) _ _ _ _ (omega arith) v.value v.filled;
-    }
+    record { value = omega arith; filled = filled_more (old_sample c.args.fill) _ _ _ _ (omega arith) v.value v.filled }
 
 pub returns : goal.returns
 returns c = filled_all (old_sample c.args.fill) _ _ _ (omega (arith, c.loop-i.invariant.filled.len)) c.loop-i.invariant.filled

@@ -1,6 +1,6 @@
 -- Before word i there are i - 1 words.
-use Rattle.std.proofs.Common.{◌≡◌, ◌+◌, ◌-◌, ◌≤◌, length}
-use Rattle.cork.specs.CommandLine.{most_words, Words}
+use Rattle.std.proofs.Common.{◌≡◌, ◌-◌, ◌≤◌, length}
+use Rattle.cork.specs.CommandLine.{Words}
 use Rattle.cork.proofs.all_words.Given as goal
 
 abbrev pub invariant-loop-i : goal.invariant-loop-i
@@ -8,10 +8,6 @@ invariant-loop-i g l = record {
   written : Words (l.i - 1) l.initial.words 0 l.words l.at;
   inside : l.at ≤ length l.initial.words;
   size : length l.words ≡ length l.initial.words;
-  first : 1 ≤ l.i;
-  few : l.i ≤ most_words + 1;
+  few : l.i ≤ 21;
   given : l.i - 1 ≤ l.count - 1;
 }
-
-abbrev pub decreases-loop-i : goal.decreases-loop-i
-decreases-loop-i g l = l.count - l.i

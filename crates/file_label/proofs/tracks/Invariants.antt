@@ -2,8 +2,8 @@
 use Rattle.std.proofs.Common.{◌≤◌, ◌-◌}
 use Rattle.file_label.proofs.tracks.Given as goal
 
-abbrev pub invariant-loop-at : goal.invariant-loop-at
-invariant-loop-at g l = l.n ≤ l.at
+abbrev pub invariant-loop-s : goal.invariant-loop-s
+invariant-loop-s g l = l.n ≤ l.at
 
-abbrev pub decreases-loop-at : goal.decreases-loop-at
-decreases-loop-at g l = l.end - l.at
+abbrev pub decreases-loop-s : goal.decreases-loop-s
+decreases-loop-s g l = l.end - l.at

@@ -4,7 +4,8 @@ use mathlib.Core.Path.{◌≡◌, ap, ◌∙◌}
 use lib.ListN.{length}
 use Rattle.sample.specs.Depth.{tops}
 use Rattle.setting.specs.Call.{input_of}
-use Rattle.rows.specs.Paint.{input_picture, output_layout}
+use Rattle.planes.specs.Shown.{shown}
+use Rattle.planes.specs.Sizes.{layout}
 use Rattle.rows.proofs.TopLaws.{takes_up_to}
 use Rattle.frame.proofs.FrameLaws.{converted_if}
 use Rattle.frame.proofs.painted.Goals as goal
@@ -22,11 +23,11 @@ paint-requires c =
       row_roomy = plan.roomy;
       takes_up_to = takes_up_to c.args.way c.args.served plan _ (top_is ((goal.at.paint-requires c).After-tops-tops));
       fits = c.requires.fits;
-      fits_2 = c.requires.fits_2;
+      room = c.requires.room;
     }
 
 pub returns : goal.returns
 returns c =
     let x = c.args in
-    converted_if x.way x.served c.plan_rows-plan.ensures _ (top_is ((goal.at.returns c).After-tops-tops)) (input_picture x.size x.a0.now x.a1.now x.a2.now)
-    (output_layout x.size (length x.b0.now) (length x.b1.now) (length x.b2.now)) _ c.paint.ensures
+    converted_if x.way x.served c.plan_rows-plan.ensures _ (top_is ((goal.at.returns c).After-tops-tops)) (shown x.a)
+    (layout x.output_stride (length x.b0.now) (length x.b1.now) (length x.b2.now)) _ c.paint.ensures

@@ -5,37 +5,17 @@ use mathlib.Core.Bool.{true, not}
 use Prim.Native.Nat.{◌+◌}
 use native.Mathlib.Omega.{arith}
 use borrow.Author.Rules.{rules}
-use Rattle.planes.specs.Picture.{Picture, picture, pixel_of}
+use Rattle.planes.specs.Picture.{pixel_of}
+use Rattle.planes.specs.Shown.{shown}
 use Rattle.scan.proofs.Walks.{walked_none, walked_past, walked_column, walked_row, walked_over, walked_all, walked_here}
 use Rattle.plan.specs.Plan.{planned, Takes}
 use Rattle.plan.specs.Source.{comes_back}
-use Rattle.convert.specs.Row.{pixel_in}
 use Rattle.convert.proofs.RunLaws.{row_run, run_of_every, pixel_of_part}
 use Rattle.image_check.proofs.first_sourceless.Goals as goal
-use Rattle.image_check.proofs.first_sourceless.Goals.{After-comes_back, After-pixel_in, Start}
+use Rattle.image_check.proofs.first_sourceless.Goals.{After-comes_back}
 
--- the picture that is lent
-abbrev lent : Start → Picture
-lent s = picture s.args.width s.args.height s.args.stride s.args.a0.now s.args.a1.now s.args.a2.now
-
--- the pixel that is read is the one at row j and column i
-reads : (c : After-pixel_in) → c.pixel_in.result ≡ pixel_of (lent c.before.before.before.before.before.before.before.before.before.before.before.before.before.before) c.rows.j c.loop-i.i
-reads c = c.pixel_in.ensures ∙ ap (pixel_in c.args.a0.now c.args.a1.now c.args.a2.now) (let start = c.row_start-a.ensures.is in omega arith)
-
-comes : (c : After-comes_back) → c.comes_back.result ≡ comes_back (planned c.args.back) (planned c.args.forth) (pixel_of (lent c.before.before.before.before.before.before.before.before.before.before.before.before.before.before.before) c.rows.j c.loop-i.i)
-comes c =
-    let read = c.pixel_in.ensures ∙ ap (pixel_in c.args.a0.now c.args.a1.now c.args.a2.now) (let start = c.row_start-a.ensures.is in omega arith) in
-    c.comes_back.ensures ∙ ap (comes_back (planned c.args.back) (planned c.args.forth)) read
-
-pub pixel_in-requires : goal.pixel_in-requires
-pixel_in-requires c =
-    let long = c.requires.fits.long in
-    let start = c.row_start-a.ensures.last in
-    record {
-      i_in_bounds = omega (arith, long.long0);
-      i_in_bounds_2 = omega (arith, long.long1);
-      i_in_bounds_3 = omega (arith, long.long2);
-    }
+comes : (c : After-comes_back) → c.comes_back.result ≡ comes_back (planned c.args.back) (planned c.args.forth) (pixel_of (shown c.args.a) c.rows.j c.loop-i.i)
+comes c = c.comes_back.ensures ∙ ap (comes_back (planned c.args.back) (planned c.args.forth)) c.pixel.ensures
 
 pub comes_back-requires : goal.comes_back-requires
 comes_back-requires c =
@@ -43,8 +23,8 @@ comes_back-requires c =
     record {
       roomy = p.roomy.0;
       roomy_2 = p.roomy.1;
-      takes = rw (reads ((goal.at.comes_back-requires c).After-pixel_in)) (p.every_pixel _ _ (omega arith) (omega arith));
-      takes_2 = rw (reads ((goal.at.comes_back-requires c).After-pixel_in)) (p.every_pixel_2 _ _ (omega arith) (omega arith));
+      takes = rw c.pixel.ensures (p.every_pixel _ _ (omega arith) (omega arith));
+      takes_2 = rw c.pixel.ensures (p.every_pixel_2 _ _ (omega arith) (omega arith));
     }
 
 -- a picture or a row that is passed over
@@ -54,7 +34,7 @@ returns-then-whole_comes_back c =
 
 pub run_comes_back-requires : goal.run_comes_back-requires
 run_comes_back-requires c =
-    let start = c.row_start-a.ensures in
+    let start = c.row_start-start.ensures in
     let long = c.requires.fits.long in
     record {
       roomy = c.requires.roomy;
@@ -64,11 +44,11 @@ run_comes_back-requires c =
 
 pub rows-preserved-then-run_comes_back : goal.rows-preserved-then-run_comes_back
 rows-preserved-then-run_comes_back c =
-    let start = c.row_start-a in
+    let start = c.row_start-start in
     let long = c.requires.fits.long in
     walked_over c.rows.invariant (omega arith)
     (λ i h. ap not
-    (pixel_of_part (lent ((goal.at.rows-preserved-then-run_comes_back c).Start)) start.result c.args.width (λ p. comes_back (planned c.args.back) (planned c.args.forth) p ≡ true) (omega (arith, start.ensures.last))
+    (pixel_of_part (shown c.args.a) start.result c.args.a.width (λ p. comes_back (planned c.args.back) (planned c.args.forth) p ≡ true) (omega (arith, start.ensures.last))
     (c.run_comes_back.ensures c.if-run_comes_back.true) i _ i (ap (λ n. n + i) start.ensures.is) h))
 
 pub loop-i-preserved : goal.loop-i-preserved

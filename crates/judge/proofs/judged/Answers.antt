@@ -3,7 +3,7 @@
 use mathlib.Core.Path.{◌≡◌, ap, ◌∙◌}
 use Rattle.sample.specs.Depth.{tops}
 use Rattle.setting.specs.Call.{input_of}
-use Rattle.rows.specs.Paint.{input_picture, output_picture}
+use Rattle.planes.specs.Shown.{shown}
 use Rattle.rows.proofs.TopLaws.{takes_up_to}
 use Rattle.judge.proofs.JudgeLaws.{judged_if}
 use Rattle.judge.proofs.judged.Goals as goal
@@ -21,11 +21,10 @@ tell-requires c =
       row_roomy = plan.roomy;
       takes_up_to = takes_up_to c.args.way c.args.served plan _ (top_is ((goal.at.tell-requires c).After-tops-tops));
       fits = c.requires.fits;
-      fits_2 = c.requires.fits_2;
+      room = c.requires.room;
     }
 
 pub returns : goal.returns
 returns c =
     let x = c.args in
-    judged_if x.way x.served c.plan_rows-plan.ensures _ (top_is ((goal.at.returns c).After-tops-tops)) (input_picture x.size x.a0.now x.a1.now x.a2.now)
-    (output_picture x.size x.b0.now x.b1.now x.b2.now) _ c.tell.ensures
+    judged_if x.way x.served c.plan_rows-plan.ensures _ (top_is ((goal.at.returns c).After-tops-tops)) (shown x.a) (shown x.b) _ c.tell.ensures

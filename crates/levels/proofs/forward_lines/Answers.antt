@@ -4,7 +4,7 @@ use Rattle.levels.specs.Conversion.{rgb_of}
 use Rattle.levels.specs.Lines.{readers_of_rgb, writer_of, luma_writer, chroma_writer, lines_of, forward_lines}
 use Rattle.levels.proofs.Fitting.{fits_as, into_luma, into_chroma}
 use Rattle.levels.proofs.forward_lines.Goals as goal
-use Rattle.levels.proofs.forward_lines.Goals.{After-writer_of-colour, Start}
+use Rattle.levels.proofs.forward_lines.Goals.{After-writer_of-colour}
 
 module _ (c : After-writer_of-colour) where
   from_is : c.readers_of_rgb-from.result ≡ readers_of_rgb (rgb_of c.args.s)

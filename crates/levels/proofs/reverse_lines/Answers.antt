@@ -4,7 +4,7 @@ use Rattle.levels.specs.Conversion.{luma_of, chroma_of}
 use Rattle.levels.specs.Lines.{readers_of_ycc, writer_of, rgb_writer, lines_of, reverse_lines}
 use Rattle.levels.proofs.Fitting.{fits_as, luma_fits, chroma_fits, into_rgb}
 use Rattle.levels.proofs.reverse_lines.Goals as goal
-use Rattle.levels.proofs.reverse_lines.Goals.{After-writer_of-to, Start}
+use Rattle.levels.proofs.reverse_lines.Goals.{After-writer_of-to}
 
 module _ (c : After-writer_of-to) where
   from_is : c.readers_of_ycc-from.result ≡ readers_of_ycc (luma_of c.args.s) (chroma_of c.args.s)

@@ -2,8 +2,8 @@
 use borrow.Author.Tests.{lt-ltb, le-ltb}
 use Rattle.plan.proofs.plan_ycgco.Goals as goal
 
-pub returns-then-rgb-chroma : goal.returns-then-rgb-chroma
-returns-then-rgb-chroma c = rw (lt-ltb _ _ c.if-rgb-chroma.true) c.plan_lossless.ensures
+pub returns-then-d : goal.returns-then-d
+returns-then-d c = rw (lt-ltb _ _ c.if-d.true) c.plan_lossless.ensures
 
 pub returns : goal.returns
-returns c = rw (le-ltb _ _ c.if-rgb-chroma.false) c.plan_lossy.ensures
+returns c = rw (le-ltb _ _ c.if-d.false) c.plan_lossy.ensures

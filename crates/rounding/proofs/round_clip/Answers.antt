@@ -25,4 +25,4 @@ returns c =
     let x = c.args in
     let fits = c.requires in
     c.clip_difference.ensures ∙ clip_of x.top (search parts)
-    ∙ by_side (lifted ((goal.at.returns c).Start)) x.mid (past_samples - x.mid) x.top (omega arith) c.one_if.ensures.value
+    ∙ by_side (lifted ((goal.at.returns c).Start)) x.mid (past_samples - x.mid) x.top (omega arith) c.from.ensures

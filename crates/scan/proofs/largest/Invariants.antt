@@ -1,12 +1,7 @@
--- `scan::largest` meets its contract: m is the largest of the elements passed so far, whichever way the branch went.
+-- `scan::largest`: m is the largest of the elements passed so far.
 use mathlib.Core.Path.{◌≡◌}
-use Prim.Native.Nat.{◌≤◌, ◌-◌}
-use lib.ListN.{length}
 use Rattle.scan.specs.First.{largest_of}
 use Rattle.scan.proofs.largest.Given as goal
 
-abbrev pub invariant-loop-i : goal.invariant-loop-i
-invariant-loop-i l = (l.i ≤ l.i-end) × ((l.i-end ≡ length l.s) × (l.m ≡ largest_of l.i l.s))
-
-abbrev pub decreases-loop-i : goal.decreases-loop-i
-decreases-loop-i l = l.i-end - l.i
+abbrev pub invariant-loop-v : goal.invariant-loop-v
+invariant-loop-v l = l.m ≡ largest_of l.v-index l.s

@@ -7,7 +7,7 @@ use Rattle.scan.proofs.largest_of_three.Given as goal
 
 abbrev pub invariant-loop-i : goal.invariant-loop-i
 invariant-loop-i l =
-    (l.i ≤ l.i-end) × ((l.i-end ≡ length l.s0) × ((l.m0 ≡ largest_of l.i l.s0) × ((l.m1 ≡ largest_of l.i l.s1) × (l.m2 ≡ largest_of l.i l.s2))))
+    (l.i ≤ l.i-end) × ((l.i-end ≡ length l.a.p0.now) × ((l.m0 ≡ largest_of l.i l.a.p0.now) × ((l.m1 ≡ largest_of l.i l.a.p1.now) × (l.m2 ≡ largest_of l.i l.a.p2.now))))
 
 abbrev pub decreases-loop-i : goal.decreases-loop-i
 decreases-loop-i l = l.i-end - l.i

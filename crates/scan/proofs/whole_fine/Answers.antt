@@ -1,7 +1,6 @@
 -- `scan::whole_fine` meets its contract: where the stride is the width, every sample of the picture is in the part that is lent.
-use mathlib.Core.Path.{sym}
-use mathlib.Core.Bool.{true≢false}
-use Prim.Native.Nat.{◌+◌, ◌*◌}
+use mathlib.Core.Path.{◌≡◌}
+use Prim.Native.Nat.{◌*◌, ◌+◌, ◌-◌}
 use native.Mathlib.Nat.{zero-add}
 use native.Mathlib.Omega.{arith}
 use borrow.Author.Tests.{leb-true}
@@ -13,9 +12,6 @@ pub returns : goal.returns
 returns c e j i h k =
     let a = c.args in
     let within = index_inside a.width a.height a.stride j i h k in
-    let start = c.row_start in
-    part_fine a.p.now a.stride j i 0 (start.result + a.width) (j * a.stride + i) a.top c.largest.result (zero-add _) (omega (arith, start.ensures.is))
-    (omega arith) (omega arith) c.largest.ensures (leb-true _ _ e)
-
-pub returns-then-stride-width : goal.returns-then-stride-width
-returns-then-stride-width c e = absurd (true≢false (sym e))
+    let whole : c.needed.result - 0 ≡ c.needed.result = omega arith in
+    part_fine a.p.now a.stride j i 0 c.needed.result (j * a.stride + i) a.top c.largest.result (zero-add _) (omega arith) (omega arith) (omega arith)
+    (rw whole c.largest.ensures) (leb-true _ _ e)

@@ -21,9 +21,3 @@ overflow_sub-cr c = omega (arith, wide c.requires.lossless_depths)
 
 pub overflow_sub-cb : goal.overflow_sub-cb
 overflow_sub-cb c = omega (arith, wide c.requires.lossless_depths)
-
-pub overflow_cast-result-2 : goal.overflow_cast-result-2
-overflow_cast-result-2 c = omega (arith, wide c.requires.lossless_depths)
-
-pub overflow_cast-result-3 : goal.overflow_cast-result-3
-overflow_cast-result-3 c = omega (arith, wide c.requires.lossless_depths)

@@ -10,12 +10,6 @@ use Rattle.ycgco.proofs.Arithmetic.{made_of, lossless_g, lossless_b, lossless_r}
 use Rattle.ycgco.proofs.Middle.{wide}
 use Rattle.ycgco.proofs.lossless_reverse.Goals as goal
 
-pub clip_moved-p1-requires : goal.clip_moved-p1-requires
-clip_moved-p1-requires c = let w = wide c.requires in omega arith
-
-pub clip_moved-p2-requires : goal.clip_moved-p2-requires
-clip_moved-p2-requires c = let w = wide c.requires in omega arith
-
 pub clip_moved-p0-requires : goal.clip_moved-p0-requires
 clip_moved-p0-requires c = let w = wide c.requires in omega arith
 

@@ -1,6 +1,6 @@
 -- `codes::matrix::matrix_of` meets its contract: an arm for one code is that code's entry of the table, and an arm for a range is what the
 -- table has at every code that the match has left for it. Past 14 the edition decides.
-use mathlib.Core.Path.{◌≡◌, refl, ap}
+use mathlib.Core.Path.{◌≡◌, refl}
 use mathlib.Core.List.{◌++◌}
 use Prim.Native.Nat.{◌≤◌, ◌<◌}
 use native.Mathlib.Omega.{arith}
@@ -57,8 +57,8 @@ unfolding matrix_of
 returns-in-5-to-6 c =
     let a = c.args in
     let small : a.code < 256 = omega arith in
-    let each = ap matrix.Served c.luma-in-5-to-6.ensures in
-    by_clues (λ m. matrix.Served c.luma-in-5-to-6.result ≡ matrix_of a.edition m) (below (passed (passed (passed (passed (passed (passed (passed (passed (λ _. none)))))))) c.in-5-to-6.in_default-own.rest) c.in-5-to-6.if-code-lt7-own.true) small (each, (each, tt))
+    let each = c.luma-in-5-to-6.ensures in
+    by_clues (λ m. c.luma-in-5-to-6.result ≡ matrix_of a.edition m) (below (passed (passed (passed (passed (passed (passed (passed (passed (λ _. none)))))))) c.in-5-to-6.in_default-own.rest) c.in-5-to-6.if-code-lt7-own.true) small (each, (each, tt))
 
 pub returns-in-10-to-14 : goal.returns-in-10-to-14
 unfolding matrix_of

@@ -5,4 +5,4 @@ use Rattle.corkplover.proofs.exports.leave_reading.Goals as goal
 pub returns : goal.returns
 returns c =
     let a = c.args in
-    reading_exported a.kind a.v c.setting_in.ensures c.meter_sample-answer.ensures c.level_in.ensures c.pack_reading.ensures
+    reading_exported a.kind a.v c.setting_in.ensures c.meter_sample-answer.ensures c.level_in.ensures c.pack_done.ensures

@@ -7,4 +7,4 @@ returns c =
     let a = c.args in
     exported a.way a.a0.now a.a1.now a.a2.now a.b0.now a.b1.now a.b2.now
     c.setting_in-s.ensures c.size_of-size.ensures
-    c.pack_frame.ensures c.convert_frame.ensures
+    c.pack_done.ensures (rw c.input.ensures at c.convert_frame.ensures)

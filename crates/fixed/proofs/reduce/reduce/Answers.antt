@@ -6,27 +6,6 @@ use Rattle.fixed.proofs.Reducing.{quotient_some, balance, taken_in}
 use Rattle.fixed.proofs.reduce.reduce.Goals as goal
 use Rattle.fixed.proofs.reduce.reduce.Goals.{After-parted-constant}
 
-pub turned-first-requires : goal.turned-first-requires
-turned-first-requires c =
-    let f = c.factor-g.ensures in
-    let room = c.requires.room in
-    let taken = taken_in room c.requires.most_le_most_sample in
-    record { some = f.some; divides = f.weight0; up_in = omega arith; down_in = omega arith; taken_in = omega arith }
-
-pub turned-second-requires : goal.turned-second-requires
-turned-second-requires c =
-    let f = c.factor-g.ensures in
-    let room = c.requires.room in
-    let taken = taken_in room c.requires.most_le_most_sample in
-    record { some = f.some; divides = f.weight1; up_in = omega arith; down_in = omega arith; taken_in = omega arith }
-
-pub turned-third-requires : goal.turned-third-requires
-turned-third-requires c =
-    let f = c.factor-g.ensures in
-    let room = c.requires.room in
-    let taken = taken_in room c.requires.most_le_most_sample in
-    record { some = f.some; divides = f.weight2; up_in = omega arith; down_in = omega arith; taken_in = omega arith }
-
 -- all that is taken away has room
 room : (c : After-parted-constant)
     → c.turned-first.result.moved + c.turned-second.result.moved + c.turned-third.result.moved + c.parted-constant.result.minus
@@ -63,12 +42,6 @@ returns c =
           t0.result.moved t1.result.moved t2.result.moved d.result.plus d.result.minus l.up l.down l.equation.over
           t0.ensures.moved_is t1.ensures.moved_is t2.ensures.moved_is d.ensures.is;
     }
-
-pub overflow_add-minus : goal.overflow_add-minus
-overflow_add-minus c = let l = room ((goal.at.overflow_add-minus c).After-parted-constant) in omega arith
-
-pub overflow_add-minus-2 : goal.overflow_add-minus-2
-overflow_add-minus-2 c = let l = room ((goal.at.overflow_add-minus-2 c).After-parted-constant) in omega arith
 
 pub overflow_add-minus-3 : goal.overflow_add-minus-3
 overflow_add-minus-3 c = let l = room ((goal.at.overflow_add-minus-3 c).After-parted-constant) in omega arith

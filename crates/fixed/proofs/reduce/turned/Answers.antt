@@ -5,8 +5,8 @@ use native.Mathlib.Omega.{arith}
 use Rattle.fixed.proofs.Reducing.{twice_below, twice_from, weight_takes, weight_adds, moved_in}
 use Rattle.fixed.proofs.reduce.turned.Goals as goal
 
-pub overflow_mul-moved : goal.overflow_mul-moved
-overflow_mul-moved c =
+pub overflow_mul-result : goal.overflow_mul-result
+overflow_mul-result c =
     let a = c.args in
     let l = moved_in a.g (a.down - a.up) a.down a.most (omega arith) in
     let room = c.requires.taken_in in
@@ -22,8 +22,8 @@ returns-then-up-down c =
       moved_in = moved_in a.g (a.down - a.up) a.down a.most (omega arith);
     }
 
-pub returns : goal.returns
-returns c =
+pub returns-else-up-down : goal.returns-else-up-down
+returns-else-up-down c =
     let a = c.args in
     let is = twice_from a.g a.up a.down (omega arith) c.requires.divides in
     record {

@@ -9,7 +9,7 @@ use Rattle.fixed.proofs.words.is_small.Goals as goal
 pub returns : goal.returns
 returns c = λ small.
     let r = c.args.r in
-    let most = c.larger-largest.result in
+    let most = c.max-largest.result in
     let l : most / r.e < past_samples = ltb-true (most / r.e) past_samples small in
     let m0 = div_mono {m = r.first.a} {n = most} r.e c.requires (omega arith) in
     let m1 = div_mono {m = r.second.a} {n = most} r.e c.requires (omega arith) in

@@ -5,4 +5,4 @@ use Rattle.fixed.proofs.words.made.Goals as goal
 
 pub returns : goal.returns
 returns c =
-    good c.requires.finished (omega (arith, c.ranges)) c.weight_of-first.ensures c.weight_of-second.ensures c.weight_of-third.ensures
+    good c.requires.finished (omega (arith, c.ranges)) c.weight_of.ensures c.weight_of-2.ensures c.weight_of-3.ensures

@@ -7,7 +7,8 @@ use lib.ListN.{length}
 use Rattle.scan.specs.First.{NotAbove}
 use Rattle.scan.proofs.Searches.{yes, no}
 use Rattle.row_plan.specs.RowPlan.{row_planned}
-use Rattle.rows.specs.Paint.{input_picture, output_layout}
+use Rattle.planes.specs.Shown.{shown}
+use Rattle.planes.specs.Sizes.{layout}
 use Rattle.rows.proofs.RowLaws.{seen_none, seen_all}
 use Rattle.frame.proofs.PaintLaws.{painting_none, seen_more, Turn, output_long, row_room, row_of_every, painting_more, rest_long, painting_end}
 use Rattle.frame.proofs.picture.paint_rows.Goals as goal
@@ -17,8 +18,8 @@ use Rattle.frame.proofs.picture.paint_rows.Goals.{After-row_start-to}
 turn : (c : After-row_start-to)
     → let x = c.args in
     let l = c.loop-j in
-    Turn (row_planned x.plan) (input_picture x.size x.a0.now x.a1.now x.a2.now)
-    (output_layout x.size (length x.b0.now) (length x.b1.now) (length x.b2.now))
+    Turn (row_planned x.plan) (shown x.a)
+    (layout x.output_stride (length x.b0.now) (length x.b1.now) (length x.b2.now))
     l.b0 l.b1 l.b2 l.j l.done c.row_start-from.result c.row_start-to.result
 turn c =
     let fits = c.requires.fits in
@@ -31,7 +32,7 @@ turn c =
     }
 
 pub loop-j-init : goal.loop-j-init
-loop-j-init c = (painting_none c.requires.fits_2, seen_none _ _)
+loop-j-init c = (painting_none c.requires.room, seen_none _ _)
 
 pub zero_gap-requires : goal.zero_gap-requires
 zero_gap-requires c = let k = output_long (turn ((goal.at.zero_gap-requires c).After-row_start-to)) in omega arith

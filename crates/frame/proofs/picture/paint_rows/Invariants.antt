@@ -3,7 +3,7 @@
 use Prim.Native.Nat.{◌-◌}
 use lib.ListN.{length}
 use Rattle.scan.specs.First.{NotAbove}
-use Rattle.planes.specs.Picture.{picture}
+use Rattle.planes.specs.Shown.{shown}
 use Rattle.planes.specs.Sizes.{layout}
 use Rattle.row_plan.specs.RowPlan.{row_planned}
 use Rattle.rows.proofs.RowLaws.{Seen}
@@ -12,8 +12,8 @@ use Rattle.frame.proofs.picture.paint_rows.Given as goal
 
 abbrev pub invariant-loop-j : goal.invariant-loop-j
 invariant-loop-j l =
-    Painting (row_planned l.plan) (picture l.width l.height l.input_stride l.a0 l.a1 l.a2) (layout l.output_stride (length l.initial.b0) (length l.initial.b1) (length l.initial.b2)) l.b0 l.b1 l.b2 l.j l.done
-    × Seen (NotAbove l.tops) (picture l.width l.height l.input_stride l.a0 l.a1 l.a2) l.j
+    Painting (row_planned l.plan) (shown l.a) (layout l.output_stride (length l.initial.b0) (length l.initial.b1) (length l.initial.b2)) l.b0 l.b1 l.b2 l.j l.done
+    × Seen (NotAbove l.tops) (shown l.a) l.j
 
 abbrev pub decreases-loop-j : goal.decreases-loop-j
-decreases-loop-j l = l.height - l.j
+decreases-loop-j l = l.a.height - l.j

@@ -3,6 +3,7 @@ use mathlib.Core.Path.{◌≡◌}
 use mathlib.Core.List.{List}
 use Prim.Native.Nat.{ℕ, ◌-◌}
 use lib.ListN.{length}
+use Rattle.planes.specs.Three.{held}
 use Rattle.row_plan.specs.RowPlan.{row_planned}
 use Rattle.compare.specs.Compare.{most_part}
 use Rattle.judge.proofs.RunLaws.{Running}
@@ -14,7 +15,7 @@ Wide c0 c1 c2 = (length c0 ≡ most_part) × ((length c1 ≡ most_part) × (leng
 
 abbrev pub invariant-loop-done : goal.invariant-loop-done
 invariant-loop-done l =
-    Running l.tops (row_planned l.plan) l.from l.to l.n l.a0 l.a1 l.a2 l.b0 l.b1 l.b2 l.first l.wrong l.done × Wide l.c0 l.c1 l.c2
+    Running l.tops (row_planned l.plan) l.from l.to l.n (held l.a) (held l.b) l.first l.wrong l.done × Wide l.c0 l.c1 l.c2
 
 abbrev pub decreases-loop-done : goal.decreases-loop-done
 decreases-loop-done l = l.n - l.done

@@ -1,40 +1,27 @@
--- `light::numbers::half_past` meets its contract: a half unit of n or less can be doubled, for n has fewer than 62 bits.
-use mathlib.Core.Path.{◌≡◌, refl}
-use Prim.Native.Nat.{ℕ, ◌+◌, ◌*◌, ◌^◌, ◌≤◌, ◌<◌}
-use native.Mathlib.Nat.{pow-succ', lt_of_not-le}
-use native.Mathlib.Numerals.{add-one}
+-- `light::numbers::half_past` meets its contract: n is less than two to its bits, and has fewer than 63 of them.
+use mathlib.Core.Path.{◌≡◌}
+use Prim.Native.Nat.{ℕ, ◌+◌, ◌*◌, ◌-◌, ◌%◌, ◌^◌, ◌≤◌, ◌<◌}
+use native.Mathlib.Nat.{lt_of_not-le}
 use native.Mathlib.Omega.{arith}
-use lib.Pow.{pow_mono}
+use lib.Count.{count_leading_zeros}
+use lib.Pow.{pow_mono, shl_exact}
+use Rattle.std.proofs.lemmas.Nat.{leading_length, pow-add}
+use Rattle.light.specs.Numbers.{Past}
 use Rattle.light.proofs.numbers.half_past.Goals as goal
-use Rattle.light.proofs.numbers.half_past.Invariants.{Doubled}
 
-double : (i : ℕ) → 2 ^ (i + 1) ≡ 2 * 2 ^ i
-double i = rw (add-one, pow-succ')
-
-few : (half shift : ℕ) → half ≡ 2147483648 * 2 ^ shift → half < 2 ^ 62 → shift < 31
-few half shift e h = lt_of_not-le (λ (l : 31 ≤ shift). let p : 2 ^ 31 ≤ 2 ^ shift = pow_mono l in omega arith)
-
-again : {half shift : ℕ} → Doubled half shift → half < 2 ^ 62 → Doubled (2 * half) (shift + 1)
-again {half} {shift} d h =
-    let s = few half shift d.is h in
-    let p : 2 ^ (shift + 1) ≤ 2 ^ 31 = pow_mono {j = 31} (omega arith) in
-    let e = d.is in
-    let t = double shift in
-    record { is = omega arith; half_in = omega arith; shift_in = omega arith }
-
-pub loop-half-preserved : goal.loop-half-preserved
-loop-half-preserved c = again c.loop-half.invariant (omega arith)
-
-pub loop-half-smaller : goal.loop-half-smaller
-loop-half-smaller c = let d = again c.loop-half.invariant (omega arith) in let s = d.shift_in in omega arith
+past : (n shift : ℕ) → shift ≡ 64 - count_leading_zeros 64 n - 31 → n < 2 ^ 62 → Past n (2147483648 * 2 ^ shift % 2 ^ 64) shift
+past n shift e h =
+    let l = leading_length 64 n (omega arith) in
+    let bits = l.0 in
+    let all : count_leading_zeros 64 n + bits ≡ 64 = l.1 in
+    let inside : n < 2 ^ bits = l.2 in
+    let least : 2 ^ bits ≤ 2 * n + 1 = l.3 in
+    let few : bits < 63 = lt_of_not-le (λ (k : 63 ≤ bits). let p : 2 ^ 63 ≤ 2 ^ bits = pow_mono k in omega arith) in
+    let exact = shl_exact {a = 2147483648} 32 shift 64 (omega arith) (omega arith) in
+    let up : 2 ^ bits ≤ 2 ^ (31 + shift) = pow_mono (omega arith) in
+    let parts : 2 ^ (31 + shift) ≡ 2 ^ 31 * 2 ^ shift = pow-add 2 31 shift in
+    let most : 2 ^ shift ≤ 2 ^ 31 = pow_mono {j = 31} (omega arith) in
+    record { above = omega arith; half_is = omega arith; half_in = omega arith; shift_in = omega arith }
 
 pub returns : goal.returns
-returns c =
-    let d = c.loop-half.invariant in
-    record { above = omega arith; half_is = d.is; half_in = d.half_in; shift_in = d.shift_in }
-
-pub loop-half-init : goal.loop-half-init
-loop-half-init c = record { is = refl; half_in = omega arith; shift_in = omega arith }
-
-pub overflow_add-shift : goal.overflow_add-shift
-overflow_add-shift c = let d = c.loop-half.invariant in let s = d.shift_in in omega arith
+returns c = past c.args.n c.saturating_sub-shift.result c.saturating_sub-shift.ensures c.requires

@@ -1,36 +1,25 @@
--- `light::prepare::prepare` meets its contract: three tests leave three planes with numbers, which stand together.
+-- `light::prepare::prepare` meets its contract: three planes with numbers have room and stand together.
 use native.Mathlib.Omega.{arith}
-use Rattle.light.proofs.Preparing.{mixes, bias_few, stand}
+use Rattle.light.proofs.Preparing.{bias_few, weighs_once, bias_once, stand}
 use Rattle.light.proofs.prepare.prepare.Goals as goal
 
-pub plane-luma-requires : goal.plane-luma-requires
-plane-luma-requires c =
-    let r = c.requires.runs_found.luma in
-    let b = bias_few c.requires.runs_found in
-    record { room = c.requires.all_ready.first.room; times_nonzero = r.times_some; level_bound = r.level_in; reach_bound = omega arith }
-
-pub overflow_mul-bias : goal.overflow_mul-bias
-overflow_mul-bias c = let b = bias_few c.requires.runs_found in omega arith
-
-pub plane-blue-requires : goal.plane-blue-requires
-plane-blue-requires c =
-    let r = c.requires.runs_found.blue in
-    let b = bias_few c.requires.runs_found in
-    record { room = c.requires.all_ready.second.room; times_nonzero = r.times_some; level_bound = r.level_in; reach_bound = omega arith }
-
-pub overflow_mul-bias-2 : goal.overflow_mul-bias-2
-overflow_mul-bias-2 c = let b = bias_few c.requires.runs_found in omega arith
-
-pub plane-red-requires : goal.plane-red-requires
-plane-red-requires c =
+pub plane-requires-3 : goal.plane-requires-3
+plane-requires-3 c =
     let r = c.requires.runs_found.red in
     let b = bias_few c.requires.runs_found in
     record { room = c.requires.all_ready.third.room; times_nonzero = r.times_some; level_bound = r.level_in; reach_bound = omega arith }
 
+pub invariant_of-result : goal.invariant_of-result
+invariant_of-result c =
+    let f = c.requires.runs_found in
+    let bias = bias_once f c.mix_of.ensures in
+    record {
+      weighs = weighs_once f c.mix_of.ensures;
+      luma_fits = rw bias c.in_ok-luma.ensures.1;
+      blue_fits = rw bias c.in_ok-blue.ensures.1;
+      red_fits = rw bias c.in_ok-red.ensures.1;
+    }
+
 pub returns : goal.returns
 returns c =
-    stand c.requires.runs_found (c.plane-luma.ensures c.if-luma-lt1.false) (c.plane-blue.ensures c.if-blue-lt1.false)
-    (c.plane-red.ensures c.if-red-lt1.false) c.mix_of-weights.result c.mix_of-weights.ensures
-
-pub mix_of-weights-requires : goal.mix_of-weights-requires
-mix_of-weights-requires c = mixes c.requires.runs_found
+    stand c.requires.runs_found _ c.mix_of.ensures c.in_ok-luma.ensures.0 c.in_ok-blue.ensures.0 c.in_ok-red.ensures.0

@@ -1,5 +1,0 @@
--- `frame::answer_of` meets its contract, by its cases.
-use Rattle.frame.proofs.answer_of.Goals as goal
-
-pub returns-in-Refused : goal.returns-in-Refused
-returns-in-Refused c = rw c.in-Refused.is
