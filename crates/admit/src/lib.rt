@@ -7,7 +7,8 @@ ghost use Rattle.refusal.specs.Rules.{first};
 ghost use Rattle.setting.specs.Rules.{admitted};
 ghost use Rattle.scan.specs.First.{bad_rule};
 ghost use Rattle.planes.specs.Shown.{shown};
-ghost use Rattle.admit.specs.Rules.{beyond_depth, pixel_picture, top_of, bad_one, by_sizes, picture_admission, pixel_admission, sample_admission};
+ghost use Rattle.planes.specs.Sizes.{size_rules};
+ghost use Rattle.admit.specs.Rules.{beyond_depth, pixel_picture, top_of, bad_one, sized_admission, picture_admission, pixel_admission, sample_admission};
 
 use meter::SampleKind;
 use planes::picture::Picture;
@@ -76,11 +77,18 @@ pub fn admit_sample(kind: SampleKind, s: Setting, v: u16) -> Result<Served, Refu
 }
 
 // A call on a picture, by its setting and its sizes. `other` is the layout of the planes that it writes; a call that writes none names its own again.
-pub fn admit_sizes(call: Call, s: Setting, a: Picture<'_>, other: Layout) -> Result<Served, Refusal>
-    ensures { result ≡ by_sizes call s (shown a.entry) other }
+pub fn admit_sizes(
+    call: Call,
+    s: Setting,
+    width: usize,
+    height: usize,
+    own: Layout,
+    other: Layout,
+) -> Result<Served, Refusal>
+    ensures { result ≡ sized_admission call s (size_rules width height (own ∷ other ∷ [])) }
 {
     let served = setting::admission::admit(call, s)?;
-    planes::size::check_sizes(a.width, a.height, a.layout(), other)?;
+    planes::size::check_sizes(width, height, own, other)?;
     Ok(served)
 }
 
@@ -93,7 +101,7 @@ pub fn admit_picture(
 ) -> Result<Served, Refusal>
     ensures { result ≡ picture_admission call s (shown a.entry) (other ∷ []) }
 {
-    let served = admit_sizes(call, s, a, other)?;
+    let served = admit_sizes(call, s, a.width, a.height, a.layout(), other)?;
     let tops = served.depths.tops(setting::reads(call));
     past(served, scan::bad_of_three(a, tops))
 }

@@ -55,7 +55,7 @@ fn attempt(
 {
     let call = Call::Convert(way);
     let output = Layout::of(output_stride, b0, b1, b2);
-    let served = admit::admit_sizes(call, s, a, output)?;
+    let served = admit::admit_sizes(call, s, a.width, a.height, a.layout(), output)?;
     if painted(way, served, a, output_stride, b0, b1, b2) {
         return Ok(());
     }

@@ -57,7 +57,7 @@ pub fn judge_frame(
 {
     let call = Call::Convert(way);
     let claimed = b.layout();
-    let served = admit::admit_sizes(call, s, a, claimed)?;
+    let served = admit::admit_sizes(call, s, a.width, a.height, a.layout(), claimed)?;
     if let Some(told) = judged(way, served, a, b) {
         return Ok(verdict(told.first, told.wrong));
     }

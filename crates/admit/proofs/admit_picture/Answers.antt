@@ -18,12 +18,12 @@ use Rattle.admit.proofs.admit_picture.Goals.{In_ok-served}
 pub returns-in_err-served : goal.returns-in_err-served
 returns-in_err-served c =
     let e = c.in_err-served.was in
-    rw (passed_on _ c.from_residual.ensures.1) (sym (still_refused c.args.call c.args.s _ _ _ (sym c.admit_sizes.ensures ∙ e)))
+    rw (passed_on _ c.from_residual.ensures.1) (sym (still_refused c.args.call c.args.s _ _ _ (sym (rw c.layout.ensures at c.admit_sizes.ensures) ∙ e)))
 
 -- let in by them
 let_in : (c : In_ok-served) → let a = c.args in
     by_sizes a.call a.s (shown a.a) a.other ≡ Ok c.in_ok-served.served
-let_in c = sym c.admit_sizes.ensures ∙ c.in_ok-served.was
+let_in c = sym (rw c.layout.ensures at c.admit_sizes.ensures) ∙ c.in_ok-served.was
 
 pub tops-tops-requires : goal.tops-tops-requires
 tops-tops-requires c = (sized_ready c.args.call c.args.s _ _ (let_in ((goal.at.tops-tops-requires c).In_ok-served))).three

@@ -15,11 +15,11 @@ pub returns-in_err-check_sizes : goal.returns-in_err-check_sizes
 returns-in_err-check_sizes c =
     let a = c.args in
     let t = served_setting a.call a.s _ _ c.admit.ensures c.in_ok-served.was in
-    rw (passed_on _ c.from_residual-in_err-check_sizes.ensures.1) (by_size a.call a.s _ _ _ t.0 (sym (rw c.layout.ensures at c.check_sizes.ensures) ∙ c.in_err-check_sizes.was))
+    rw (passed_on _ c.from_residual-in_err-check_sizes.ensures.1) (by_size a.call a.s _ _ _ t.0 (sym c.check_sizes.ensures ∙ c.in_err-check_sizes.was))
 
 pub returns : goal.returns
 unfolding first
 returns c =
     let a = c.args in
     let t = served_setting a.call a.s _ _ c.admit.ensures c.in_ok-served.was in
-    ap Ok (sym t.1) ∙ by_sample a.call a.s _ _ t.0 (sym (rw c.layout.ensures at c.check_sizes.ensures) ∙ c.in_ok-check_sizes.was)
+    ap Ok (sym t.1) ∙ by_sample a.call a.s _ _ t.0 (sym c.check_sizes.ensures ∙ c.in_ok-check_sizes.was)

@@ -14,11 +14,11 @@ let_in : (c : In_ok-served)
     → let x = c.args in
     FrameSized x.way x.s (shown x.a) (layout x.output_stride (length x.b0.now) (length x.b1.now) (length x.b2.now))
     c.in_ok-served.served
-let_in c = record { is_sized = sym (rw c.of-output.ensures at c.admit_sizes.ensures) ∙ c.in_ok-served.was }
+let_in c = record { is_sized = sym (rw (c.layout.ensures, c.of-output.ensures) at c.admit_sizes.ensures) ∙ c.in_ok-served.was }
 
 pub returns-in_err-served : goal.returns-in_err-served
 returns-in_err-served c =
-    let sizes = rw c.of-output.ensures at c.admit_sizes.ensures in
+    let sizes = rw (c.layout.ensures, c.of-output.ensures) at c.admit_sizes.ensures in
     rw (passed_on _ c.from_residual.ensures.1) (refused_first c.args.way c.args.s _ _ _ (sym sizes ∙ c.in_err-served.was))
 
 pub painted-requires : goal.painted-requires

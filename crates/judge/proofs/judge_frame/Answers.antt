@@ -13,7 +13,7 @@ use Rattle.judge.proofs.judge_frame.Goals.{In_ok-served}
 let_in : (c : In_ok-served)
     → let x = c.args in
     FrameSized x.way x.s (shown x.a) (layout_of (shown x.b)) c.in_ok-served.served
-let_in c = record { is_sized = sym (rw c.layout-claimed.ensures at c.admit_sizes.ensures) ∙ c.in_ok-served.was }
+let_in c = record { is_sized = sym (rw (c.layout.ensures, c.layout-claimed.ensures) at c.admit_sizes.ensures) ∙ c.in_ok-served.was }
 
 pub judged-requires : goal.judged-requires
 judged-requires c =
@@ -29,7 +29,7 @@ returns-in-Some c =
 pub returns-in_err-served : goal.returns-in_err-served
 returns-in_err-served c =
     let x = c.args in
-    let sizes = rw c.layout-claimed.ensures at c.admit_sizes.ensures in
+    let sizes = rw (c.layout.ensures, c.layout-claimed.ensures) at c.admit_sizes.ensures in
     rw (passed_on _ c.from_residual.ensures.1) (refused_first x.way x.s (shown x.a) (shown x.b) _ (sym sizes ∙ c.in_err-served.was))
 
 pub returns-in_err-admit_picture : goal.returns-in_err-admit_picture
