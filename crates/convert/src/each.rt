@@ -6,6 +6,17 @@ ghost use Rattle.convert.specs.Row.{EveryOf, OneWidth, SteppedRow, SteppedRows};
 use planes::three::Planes;
 use sample::Pixel;
 
+// One row of samples, as it is. Element by element, which takes no call: `copy_from_slice` becomes
+// `memmove`, and the archive asks the C library for `memset` and `memcpy` alone.
+fn copy(a: &[u16], b: &mut [u16])
+    requires { length b.old ≡ length a.now }
+    ensures { b.new ≡ a.now }
+{
+    for i in 0..a.len() {
+        b[i] = a[i];
+    }
+}
+
 // Three rows, each as it is.
 pub fn copy_three(a: Planes<'_>, b0: &mut [u16], b1: &mut [u16], b2: &mut [u16])
     requires b0_len { length b0.old ≡ length a.p0.now }
@@ -15,9 +26,9 @@ pub fn copy_three(a: Planes<'_>, b0: &mut [u16], b1: &mut [u16], b2: &mut [u16])
     ensures b1_after { b1.new ≡ a.entry.p1.now }
     ensures b2_after { b2.new ≡ a.entry.p2.now }
 {
-    b0.copy_from_slice(a.p0);
-    b1.copy_from_slice(a.p1);
-    b2.copy_from_slice(a.p2);
+    copy(a.p0, b0);
+    copy(a.p1, b1);
+    copy(a.p2, b2);
 }
 
 // A pixel at a time, each by the step. The loop goes by an index: over six slices.
