@@ -130,14 +130,22 @@ module _ {lines : Lines} {r : Runs} (f : RunsFound lines r) where
     once p w i = record { p0 = y_is p w i; p1 = cb_is p w i; p2 = cr_is p w i }
 
   -- so whatever has those weights and such factors stands for the lines
-  pub stand : (k : Quotients) → k.mix ≡ mix_of r scale → OneTop lines k.top → LumaExact r.luma scale r.bias k.luma
+  pub any_stands : (k : Quotients) → k.mix ≡ mix_of r scale → OneTop lines k.top → LumaExact r.luma scale r.bias k.luma
       → Shares r.blue lines.second.line.mid scale r.bias (r.kb * r.most) k.blue
       → Shares r.red lines.third.line.mid scale r.bias (r.kr * r.most) k.red
       → Stands lines k × (k.mix.most ≡ r.most)
-  stand k e one first second third = (
+  any_stands k e one first second third = (
     record {
       fits = record { weighs = k.weighs; bias_in = k.bias_in; top_in = k.top_in; blue = k.blue_there; red = k.red_there };
       is = subst (λ m. (p : Pixel) → UpTo m.most p → pixel_by one first second third m p ≡ lines_pixel lines p) (sym e) (once one first second third);
     },
     ap (λ m. m.most) e,
   )
+
+  module _ {luma top : ℕ} {blue red : Share} (one : OneTop lines top) (first : LumaExact r.luma scale r.bias luma)
+      (second : Shares r.blue lines.second.line.mid scale r.bias (r.kb * r.most) blue)
+      (third : Shares r.red lines.third.line.mid scale r.bias (r.kr * r.most) red) where
+    -- and so do those that are made of exact factors, which have room by that alone
+    pub stand : (m : Mix) (e : m ≡ mix_of r scale)
+        → Stands lines (made one first second third m e) × (m.most ≡ r.most)
+    stand m e = any_stands (made one first second third m e) e one first second third

@@ -1,6 +1,6 @@
 -- `quotients::prepare::prepare` meets its contract: each factor that was found is exact, and together they have room and stand for the lines.
 use native.Mathlib.Omega.{arith}
-use Rattle.quotients.proofs.Standing.{testable, made, stand}
+use Rattle.quotients.proofs.Standing.{testable, made, any_stands}
 use Rattle.quotients.proofs.prepare.prepare.Goals as goal
 
 pub share_of-requires : goal.share_of-requires
@@ -20,4 +20,4 @@ invariant_of-result c =
 
 pub returns : goal.returns
 returns c =
-    stand c.requires.runs_found _ c.mix_of.ensures c.in_ok-top.ensures c.in_ok-luma.ensures.luma_exact c.in_ok-blue.ensures c.in_ok-red.ensures
+    any_stands c.requires.runs_found _ c.mix_of.ensures c.in_ok-top.ensures c.in_ok-luma.ensures.luma_exact c.in_ok-blue.ensures c.in_ok-red.ensures
