@@ -2,7 +2,7 @@
 #![tactic(auto)]
 
 ghost use Rattle.std.specs.Prelude.{◌≡◌, ℕ, ◌^◌, ◌≤◌, ◌<◌};
-ghost use Rattle.sample.specs.Depth.{most_depth, Depth, is_depth, rgb_checked, luma_checked, chroma_checked, depths_checked, ThreeDepths, at_most, M, middle_of, S, tops};
+ghost use Rattle.sample.specs.Depth.{most_depth, Depth, rgb_checked, luma_checked, chroma_checked, depths_checked, ThreeDepths, at_most, M, middle_of, S, tops};
 
 // Three samples, by plane: R, G, B on one side and Y, Cb, Cr on the other.
 #[derive(Clone, Copy, PartialEq, Eq)]
@@ -90,13 +90,13 @@ impl SampleDepth for ChromaDepth {
 impl RgbDepth {
     pub const LEAST: u8 = LEAST_DEPTH;
 
-    pub const MOST: u8 = MOST_DEPTH;
+    pub const MOST: u8 = MOST_DEPTH; // of R, G and B
 
-    #[tactic(auto, unfolding(crate::specs::Depth::rgb_checked))]
+    #[tactic(auto, unfolding(crate::specs::Depth::rgb_checked, crate::specs::Depth::is_depth))]
     pub fn checked(n: u8) -> Option<RgbDepth>
         ensures { result ≡ rgb_checked n }
     {
-        is_depth(n).then_some(RgbDepth(n))
+        (Self::LEAST <= n && n <= Self::MOST).then_some(RgbDepth(n))
     }
 }
 
@@ -105,11 +105,11 @@ impl LumaDepth {
 
     pub const MOST: u8 = MOST_DEPTH;
 
-    #[tactic(auto, unfolding(crate::specs::Depth::luma_checked))]
+    #[tactic(auto, unfolding(crate::specs::Depth::luma_checked, crate::specs::Depth::is_depth))]
     pub fn checked(n: u8) -> Option<LumaDepth>
         ensures { result ≡ luma_checked n }
     {
-        is_depth(n).then_some(LumaDepth(n))
+        (Self::LEAST <= n && n <= Self::MOST).then_some(LumaDepth(n))
     }
 }
 
@@ -118,11 +118,11 @@ impl ChromaDepth {
 
     pub const MOST: u8 = MOST_DEPTH;
 
-    #[tactic(auto, unfolding(crate::specs::Depth::chroma_checked))]
+    #[tactic(auto, unfolding(crate::specs::Depth::chroma_checked, crate::specs::Depth::is_depth))]
     pub fn checked(n: u8) -> Option<ChromaDepth>
         ensures { result ≡ chroma_checked n }
     {
-        is_depth(n).then_some(ChromaDepth(n))
+        (Self::LEAST <= n && n <= Self::MOST).then_some(ChromaDepth(n))
     }
 
     // H, the middle of the plane.
@@ -133,14 +133,6 @@ impl ChromaDepth {
     {
         power(self.0 - 1)
     }
-}
-
-// Whether a number is a depth.
-#[tactic(auto, unfolding(crate::specs::Depth::is_depth))]
-fn is_depth(n: u8) -> bool
-    ensures { result ≡ is_depth n }
-{
-    LEAST_DEPTH <= n && n <= MOST_DEPTH
 }
 
 // The depths of a setting, past their check.
