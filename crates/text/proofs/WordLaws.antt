@@ -15,7 +15,7 @@ use lib.Seq.{drop-drop, get_or-drop, take_all}
 use Rattle.std.specs.Prelude.{Option, Some, None, option_map, position}
 use Rattle.std.specs.List.{position_or_len}
 use Rattle.std.proofs.lemmas.List.Recursion.{is_position_or_len}
-use Rattle.text.specs.Words.{begun, split, word_of, before, same_word, index_in, After}
+use Rattle.text.specs.Words.{begun, split, word_of, before, text_from, same_word, index_in, After}
 
 -- the bytes before the first gap, one byte at a time
 before_gap : (gap b : ℕ) (s : List ℕ) → b ≡ gap → before gap (b ∷ s) ≡ 0
@@ -114,6 +114,14 @@ module _ (gap : ℕ) where
   after_none s h = after s [] (let l : length s ≤ before gap s + 1 = omega (arith, gap_nowhere s h) in sym (drop_of_length-le s l))
 
   -- words counted from the front
+  pub from_none : (s : List ℕ) → s ≡ text_from gap s 0
+  unfolding text_from
+  from_none s = refl
+
+  pub from_next : (s t u : List ℕ) (n : ℕ) → t ≡ text_from gap s n → After gap t u → u ≡ text_from gap s (n + 1)
+  unfolding text_from
+  from_next s t u n e f = f.is ∙ rw (e, add-one n) refl
+
   pub one_fewer : (s t u : List ℕ) (n : ℕ) → split gap t ≡ drop n (split gap s) → After gap t u → split gap u ≡ drop (n + 1) (split gap s)
   one_fewer s t u n e f = f.words ∙ ap (drop 1) e ∙ drop-drop 1 n (split gap s)
 

@@ -1,5 +1,5 @@
 -- The words of a text: what stands between its gaps.
-use Rattle.std.specs.Prelude.{◌≡◌, Bool, true, false, cond, ◌&&◌, List, [], ◌∷◌, ℕ, suc, ◌+◌, ◌≤◌, ◌<◌, eqb, length, get_or, drop, Option, Some, None, option_map}
+use Rattle.std.specs.Prelude.{◌≡◌, Bool, true, false, cond, ◌&&◌, List, [], ◌∷◌, ℕ, zero, suc, ◌+◌, ◌≤◌, ◌<◌, eqb, length, get_or, drop, Option, Some, None, option_map}
 
 -- a byte in front of the first word
 abbrev pub begun : ℕ → List (List ℕ) → List (List ℕ)
@@ -23,6 +23,11 @@ before gap (b ∷ s) = cond (eqb b gap) 0 (suc (before gap s))
 -- what stands behind the first word and its gap
 abbrev pub rest_of : ℕ → List ℕ → List ℕ
 rest_of gap s = drop (before gap s + 1) s
+
+-- what stands from word n on: the text itself from word 0 on, nothing where there is no word n
+unfoldable pub text_from : ℕ → List ℕ → ℕ → List ℕ
+text_from gap s zero = s
+text_from gap s (suc n) = rest_of gap (text_from gap s n)
 
 unfoldable pub same_word : List ℕ → List ℕ → Bool
 same_word [] [] = true

@@ -1,6 +1,6 @@
 // Reading a text that is split into words by one byte, the gap: a blank between words, or a line's end between lines.
 ghost use Rattle.std.specs.Prelude.{◌≡◌, ◌≤◌, ◌==◌, IfSome, length, drop, ltb, position};
-ghost use Rattle.text.specs.Words.{split, word_of, index_in, After};
+ghost use Rattle.text.specs.Words.{split, word_of, text_from, index_in, After};
 ghost use Rattle.text.specs.Numerals.{number_of};
 
 // A text, and the byte between its words.
@@ -42,6 +42,7 @@ impl<'a> Words<'a> {
 
     // The words from word n on, counted from 0.
     pub fn skip(self, n: u8) -> Words<'a>
+        ensures text { result.text.now ≡ text_from self.entry.gap self.entry.text.now n }
         ensures words { split self.entry.gap result.text.now ≡ drop n (split self.entry.gap self.entry.text.now) }
         ensures gap { result.gap ≡ self.entry.gap }
     {
