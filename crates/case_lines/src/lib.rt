@@ -12,7 +12,7 @@ use crate::pictures::FrameTask;
 use case_words::{GAP, RANGES};
 use codes::label::CodeKind;
 use meter::SampleKind;
-use request::form::{Behind, Fault};
+use request::form::Fault;
 use request::{Request, form};
 use setting::{Call, Way};
 use std::io;
@@ -39,10 +39,7 @@ fn asked(rt: &impl Print, request: Result<Request, Fault>) -> io::Result<()> {
 fn on_words(rt: &impl Print, task: Task, words: Words<'_>, edition: u8) -> io::Result<()> {
     match task {
         Task::Pixel(call) => asked(rt, form::pixel_form(call, edition, words, RANGES)),
-        Task::Sample(kind) => asked(
-            rt,
-            form::sample_form(kind, edition, words, RANGES, Behind::Setting),
-        ),
+        Task::Sample(kind) => asked(rt, form::sample_form(kind, edition, words, RANGES, 9)),
         Task::Label(kind) => asked(rt, form::label_form(kind, edition, words, 1)),
         Task::Frame(task, way) => pictures::on_frame(rt, words, edition, task, way),
         Task::Image => pictures::on_image(rt, words, edition),

@@ -7,7 +7,7 @@ ghost use Rattle.cork.specs.CommandLine.{most_words, Words, edition_said};
 use codes::label::CodeKind;
 use counter::{GAP, saying, wording};
 use meter::SampleKind;
-use request::form::{Behind, Expected, Fault, RangeNames};
+use request::form::{Expected, Fault, RangeNames};
 use request::{Request, form};
 use setting::{Call, Way};
 use std::env::{Env, FillError};
@@ -81,7 +81,7 @@ fn on_meter(rt: &impl Print, words: reading::Words<'_>, said: Said) -> io::Resul
         b"cr" => SampleKind::Cr,
         _ => return on_pixel(rt, words, said, Call::Meter),
     };
-    let request = form::sample_form(kind, said.edition, words, RANGES, Behind::Kind);
+    let request = form::sample_form(kind, said.edition, words, RANGES, 10);
     asked(rt, words, said, request)
 }
 

@@ -13,8 +13,6 @@ use Rattle.setting.specs.declared.Way.TheVariants.{Forward, Reverse}
 use Rattle.request.specs.declared.Request.TheVariants as request
 use Rattle.request.specs.declared.Request.{Request}
 use Rattle.request.specs.declared.form.Fault.{Fault}
-use Rattle.request.specs.declared.form.Behind.{Behind}
-use Rattle.request.specs.declared.form.Behind.TheVariants as behind
 use Rattle.request.specs.declared.form.Expected.{Expected}
 use Rattle.request.specs.declared.form.Expected.TheVariants.{Verb, Primaries, Transfer, Matrix, RgbDepth, YDepth, CDepth, RgbRange, YccRange}
 use Rattle.request.specs.declared.form.Expected.TheVariants.{Red, Green, Blue, Luma, Cb, Cr, KindOrLuma, Code, NoMore}
@@ -135,11 +133,6 @@ expected_alone kind n fault = cond (eqb fault n) (expected_sample kind) (expecte
 
 abbrev pub sample_form : SampleKind → ℕ → ℕ → List ℕ → List ℕ → List ℕ → ℕ → Result Request Fault
 sample_form kind edition gap s narrow full n = told (expected_alone kind n) (sample_read kind edition gap s narrow full n)
-
--- it follows the setting, or the word that names its kind
-abbrev pub place_of : Behind → ℕ
-place_of behind.Setting = 9
-place_of behind.Kind = 10
 
 -- a request about a code, word n
 abbrev pub label_read : CodeKind → ℕ → ℕ → List ℕ → ℕ → Result Request ℕ

@@ -1,7 +1,7 @@
 // Reading the words of a request. Words 1 to 8 are the setting, and the samples follow it. Who asks has read what stands before them, and says
 // which edition is meant, which byte stands between words, and what the two ranges are called.
 ghost use Rattle.std.specs.Prelude.{◌≡◌, ◌≤◌, ◌<◌, IfOk};
-ghost use Rattle.request.specs.Form.{number_word, range_word, end_of_words, setting_words, pixel_words, pixel_read, sample_read, label_read, largest_byte, largest_sample, expected_with, expected_before, expected_at, expected_sample, expected_alone, expected_code, pixel_form, sample_form, label_form, place_of};
+ghost use Rattle.request.specs.Form.{number_word, range_word, end_of_words, setting_words, pixel_words, pixel_read, sample_read, label_read, largest_byte, largest_sample, expected_with, expected_before, expected_at, expected_sample, expected_alone, expected_code, pixel_form, sample_form, label_form};
 
 use crate::Request;
 use codes::label::CodeKind;
@@ -39,13 +39,6 @@ pub enum Expected {
 pub struct Fault {
     pub word: u8,
     pub expected: Expected,
-}
-
-// What the word of a lone sample stands behind: the setting, or the word that names its kind.
-#[derive(Clone, Copy)]
-pub enum Behind {
-    Setting,
-    Kind,
 }
 
 // What the two ranges are called.
@@ -253,20 +246,17 @@ pub fn pixel_form(
     })
 }
 
-// A request about one sample.
+// A request about one sample, which is word n.
 pub fn sample_form(
     kind: SampleKind,
     edition: u8,
     words: Words<'_>,
     ranges: RangeNames<'_>,
-    behind: Behind,
+    n: u8,
 ) -> Result<Request, Fault>
-    ensures { result ≡ sample_form kind edition words.entry.gap words.entry.text.now ranges.entry.narrow.now ranges.entry.full.now (place_of behind) }
+    requires { n < 254 }
+    ensures { result ≡ sample_form kind edition words.entry.gap words.entry.text.now ranges.entry.narrow.now ranges.entry.full.now n }
 {
-    let n = match behind {
-        Behind::Setting => 9,
-        Behind::Kind => 10,
-    };
     sample_read(kind, edition, words, ranges, n).map_err(|word| Fault {
         word,
         expected: expected_alone(kind, n, word),
