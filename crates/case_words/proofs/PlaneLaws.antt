@@ -19,7 +19,9 @@ glue front r = record { samples = front ++ r.samples; all = r.all; rest = r.rest
 
 module _ (gap : ℕ) (t : List ℕ) where
   read_next : (k : ℕ) → 0 < k
-      → read gap t k ≡ read_on (number_of (word_of gap t 0) largest_sample) (k - 1) (read gap (rest_of gap t) (k - 1))
+      → read gap t k
+      ≡ read_on (rest_of gap t) (number_of (word_of gap t 0) largest_sample) (k - 1)
+      (read gap (rest_of gap t) (k - 1))
   unfolding read
   read_next zero h = absurd (omega arith)
   read_next (suc k) h = let e : suc k - 1 ≡ k = omega arith in rw e refl
@@ -31,11 +33,13 @@ module _ (gap : ℕ) (t : List ℕ) where
 
   -- a word that is none
   pub read_none : (front : List ℕ) (k : ℕ) (r : Read) → 0 < k → number_of (word_of gap t 0) largest_sample ≡ None
-      → glue front (read gap t k) ≡ r → (r.samples ≡ front ++ replicate k 0) × (r.all ≡ false)
+      → glue front (read gap t k) ≡ r
+      → (r.samples ≡ front ++ replicate k 0) × (r.all ≡ false) × (r.rest ≡ rest_of gap t)
   unfolding read
   read_none front zero r h e f = absurd (omega arith)
   read_none front (suc k) r h e f =
-      let g = rw e at (sym f) in (ap (λ (x : Read). x.samples) g, ap (λ (x : Read). x.all) g)
+      let g = rw e at (sym f) in
+      (ap (λ (x : Read). x.samples) g, ap (λ (x : Read). x.all) g, ap (λ (x : Read). x.rest) g)
 
   -- nothing is left to read
   pub read_end : (front : List ℕ) (k : ℕ) (r : Read) → k ≡ 0 → glue front (read gap t k) ≡ r → r ≡ record { samples = front; all = true; rest = t }

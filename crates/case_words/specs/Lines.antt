@@ -30,20 +30,22 @@ picture_words gap line edition =
     next (size_word gap line 11) (λ stride.
     Ok (record { setting = w; width = width; height = height; stride = stride })))))
 
--- so many samples, with which a text begins: themselves, whether all of them are samples, and what stands behind them
+-- so many samples, with which a text begins: themselves, whether all of them are samples, and what
+-- stands behind them, or behind the first word that is none
 pub record Read : Type 0 where
   pub samples : List ℕ
   pub all : Bool
   pub rest : List ℕ
 
--- from a word that is none on the samples are zeros
-abbrev pub read_on : Option ℕ → ℕ → Read → Read
-read_on (Some v) n more = record { samples = v ∷ more.samples; all = more.all; rest = more.rest }
-read_on None n more = record { samples = replicate (suc n) 0; all = false; rest = more.rest }
+-- from a word that is none on the samples are zeros, and no word is read
+abbrev pub read_on : List ℕ → Option ℕ → ℕ → Read → Read
+read_on rest (Some v) n more = record { samples = v ∷ more.samples; all = more.all; rest = more.rest }
+read_on rest None n more = record { samples = replicate (suc n) 0; all = false; rest = rest }
 
 unfoldable pub read : ℕ → List ℕ → ℕ → Read
 read gap s zero = record { samples = []; all = true; rest = s }
-read gap s (suc n) = read_on (number_of (word_of gap s 0) largest_sample) n (read gap (rest_of gap s) n)
+read gap s (suc n) =
+    read_on (rest_of gap s) (number_of (word_of gap s 0) largest_sample) n (read gap (rest_of gap s) n)
 
 -- a plane says its length first; there is none where a word is at fault
 abbrev pub length_at : ℕ → List ℕ → ℕ → Option ℕ
@@ -55,9 +57,13 @@ plane_of gap s n = cond (read gap (rest_of gap s) n).all (Some n) None
 abbrev pub plane_at : ℕ → List ℕ → ℕ → Option ℕ
 plane_at gap s room = option_and_then (plane_of gap s) (length_at gap s room)
 
--- what stands behind it
+-- what stands behind it, or behind the word at fault
+abbrev pub behind : ℕ → List ℕ → Option ℕ → List ℕ
+behind gap s (Some n) = (read gap (rest_of gap s) n).rest
+behind gap s None = rest_of gap s
+
 abbrev pub plane_rest : ℕ → List ℕ → ℕ → List ℕ
-plane_rest gap s n = (read gap (rest_of gap s) n).rest
+plane_rest gap s room = behind gap s (length_at gap s room)
 
 -- its samples, before what stood behind them in a buffer
 abbrev pub over : ℕ → List ℕ → List ℕ → Option ℕ → List ℕ

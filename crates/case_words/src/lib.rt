@@ -51,7 +51,7 @@ pub fn next_number(words: &mut Words<'_>, most: u64) -> Option<u64>
 fn samples(words: &mut Words<'_>, out: &mut [u16]) -> Option<()>
     ensures out_after { out.new ≡ (read words.old.gap words.old.text.now (length out.old)).samples }
     ensures all { is_some result ≡ (read words.old.gap words.old.text.now (length out.old)).all }
-    ensures rest { IfSome result (λ u. words.new.text.now ≡ (read words.old.gap words.old.text.now (length out.old)).rest) }
+    ensures rest { words.new.text.now ≡ (read words.old.gap words.old.text.now (length out.old)).rest }
     ensures gap { words.new.gap ≡ words.old.gap }
 {
     out.fill(0);
@@ -66,7 +66,7 @@ pub fn plane(words: &mut Words<'_>, out: &mut [u16]) -> Option<usize>
     ensures value { result ≡ plane_at words.old.gap words.old.text.now (length out.old) }
     ensures length_in_bounds { IfSome result (λ n. n ≤ length out.old) }
     ensures out_after { out.new ≡ plane_over words.old.gap words.old.text.now out.old }
-    ensures rest { IfSome result (λ n. words.new.text.now ≡ plane_rest words.old.gap words.old.text.now n) }
+    ensures rest { words.new.text.now ≡ plane_rest words.old.gap words.old.text.now (length out.old) }
     ensures gap { words.new.gap ≡ words.old.gap }
 {
     let length = next_number(words, out.len() as u64)? as usize;

@@ -34,7 +34,7 @@ pub fn record_at(words: &mut Words<'_>, out: &mut [u8]) -> Option<usize>
     ensures value { result ≡ plane_at words.old.gap words.old.text.now record_room }
     ensures length_le_record_room { IfSome result (λ n. n ≤ record_room) }
     ensures out_after { out.new ≡ record_over words.old.gap words.old.text.now (length out.old) }
-    ensures rest { IfSome result (λ n. words.new.text.now ≡ plane_rest words.old.gap words.old.text.now n) }
+    ensures rest { words.new.text.now ≡ plane_rest words.old.gap words.old.text.now record_room }
     ensures gap { words.new.gap ≡ words.old.gap }
 {
     let mut numbers = [0u16; ROOM];

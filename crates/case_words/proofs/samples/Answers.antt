@@ -46,6 +46,13 @@ returns-in_err-out-clause-all c =
     let p = read_none _ _ (take l.i l.out) (n - l.i) _ (omega arith) (sym c.next_number.ensures.value ∙ c.in_err-out.was) l.invariant.whole in
     rw (← c.fill.ensures.len, c.from_residual.ensures) (sym p.1)
 
+pub returns-in_err-out-clause-rest : goal.returns-in_err-out-clause-rest
+returns-in_err-out-clause-rest c =
+    let l = c.loop-i in
+    let n = length c.fill.new.self in
+    let p = read_none _ _ (take l.i l.out) (n - l.i) _ (omega arith) (sym c.next_number.ensures.value ∙ c.in_err-out.was) l.invariant.whole in
+    rw (← c.fill.ensures.len) (c.next_number.ensures.after.is ∙ sym p.2)
+
 pub returns : goal.returns
 returns c =
     let l = c.loop-i in
