@@ -69,6 +69,10 @@ pixel_converts w s p =
 
 -- ---- the source check
 
+-- what is found is the word
+word_of : (b : Bool) → (meaning_of_source (Ok b)).source ≡ b ∷ []
+word_of b = refl
+
 -- one word is one word
 pub same_word : {l : List Bool} {b c : Bool} → l ≡ b ∷ [] → l ≡ c ∷ [] → b ≡ c
 same_word e f = ap (λ l. get_or l 0 true) (sym e ∙ f)
@@ -86,7 +90,7 @@ exactly_tested s p h = source_exactly s p (pixel_accepted call.ImageCheck s p h)
 source_says : (s : Setting) (p : Pixel) → NoneApplies (pixel_rules call.ImageCheck s p)
     → (meaning_of_source (source_answer s p)).source ≡ has_source (served s) p ∷ []
 unfolding source_answer
-source_says s p h = ap (λ v. (meaning_of_source (source_by p v)).source) (let_in call.ImageCheck s p h)
+source_says s p h = ap (λ v. (meaning_of_source (source_by p v)).source) (let_in call.ImageCheck s p h) ∙ word_of (has_source (served s) p)
 
 pub pixel_checks : (s : Setting) (p : Pixel) → ChecksPixel s p (meaning_of_source (source_answer s p))
 pixel_checks s p =
