@@ -54,8 +54,10 @@ fn on_edition(rt: &impl Print, task: Task, words: Words<'_>) -> io::Result<()> {
     }
 }
 
-// The first word says what is asked.
-fn on_line(rt: &impl Print, line: Words<'_>) -> io::Result<()> {
+// The first word says what is asked. A blank stands between words.
+fn on_line(rt: &impl Print, line: Words<'_>) -> io::Result<()>
+    requires { line.gap ≡ 32 }
+{
     let words = line.rest();
     let task = match line.first() {
         b"N" => return records::on_read(rt, words),

@@ -36,8 +36,9 @@ struct Said {
     words: u8,
 }
 
-// Word 1, where it names an edition.
+// Word 1, where it names an edition. Behind each word stands the 0 that `word` puts there.
 fn edition_said(words: reading::Words<'_>, names: &[u8]) -> Said
+    requires { words.gap ≡ 0 }
     ensures { result ≡ edition_said words.entry.gap words.entry.text.now names.now }
 {
     let editions = reading::Words {
@@ -98,10 +99,10 @@ fn on_label(rt: &impl Print, words: reading::Words<'_>, said: Said) -> io::Resul
     asked(rt, words, said, request)
 }
 
-fn on_words(
-    rt: &(impl Env + Files<File = File> + Print),
-    all: reading::Words<'_>,
-) -> io::Result<()> {
+// All words, with a 0 behind each.
+fn on_words(rt: &(impl Env + Files<File = File> + Print), all: reading::Words<'_>) -> io::Result<()>
+    requires { all.gap ≡ 0 }
+{
     let said = edition_said(all, &EDITIONS);
     let words = all.skip(said.words);
     match all.first() {
